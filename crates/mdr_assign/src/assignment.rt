@@ -1,19 +1,20 @@
 // Assignments (C99 6.5.16).
 
-ghost use Rattle.std.specs.Prelude.{◌≡◌, IfOk, Err};
+ghost use Rattle.std.specs.Prelude.{◌≡◌, ◌&&◌, IfOk, Err};
 ghost use Rattle.mdr_assign.specs.declared.assignment.Destination.{Destination};
 ghost use Rattle.mdr_rich.specs.declared.code.Expr.{Expr};
 ghost use Rattle.mdr_operand.specs.declared.operand.Operand.{Operand};
 ghost use Rattle.mdr_faults.specs.Faults.{Checked, told, after, both};
 ghost use Rattle.mdr_binary.specs.Binaries.{calculation_of};
-ghost use Rattle.mdr_assign.specs.Assignments.{scalar_object, destination_at, given, plain_at, old_value, compound_at, assigned_by, assigned_at, assignment_rule};
+ghost use Rattle.mdr_assign.specs.Assignments.{scalar_object, destination_at, given, plain_at, old_value, compound_at, assigned_by, is_compound, left_at, assigned_at, assignment_rule};
 
 use mdr_binary::calculation_of;
 use mdr_code_copies::copied_lval;
 use mdr_core::{BinOp, Place, Ty};
 use mdr_faults::{Fault, FaultKind, Scope, both, copied_type, is_scalar};
 use mdr_operand::{
-    AssignmentOperator, Operand, both_given_up, converted_at, given_up, out_of_memory,
+    AssignmentOperator, Operand, both_given_up, converted_at, given_up, is_active_operand,
+    out_of_memory,
 };
 use mdr_rich::{Expr, Lval};
 use std::alloc::{AllocError, Global};
@@ -179,6 +180,32 @@ fn assigned_by(
     }
 }
 
+fn is_compound(op: Option<AssignmentOperator>) -> bool
+    ensures { result ≡ is_compound op }
+{
+    match op {
+        Some(AssignmentOperator::Compound(_)) => true,
+        Some(AssignmentOperator::Plain) | None => false,
+    }
+}
+
+fn is_active_left(op: Option<AssignmentOperator>, x: &Operand) -> bool
+    ensures { result ≡ (is_compound op && is_active_operand x.now) }
+{
+    is_compound(op) && is_active_operand(x)
+}
+
+#[tactic(auto, unfolding(crate::specs::Assignments::left_at))]
+fn left_at(place: Place, op: Option<AssignmentOperator>, x: Operand) -> Result<Destination, Fault>
+    ensures { result ≡ told (left_at place op x) }
+{
+    if is_active_left(op, &x) {
+        given_up(place, FaultKind::NotAnLvalue, x)
+    } else {
+        destination_at(place, x)
+    }
+}
+
 fn assigned_to(
     alloc: Global,
     scope: &Scope,
@@ -206,7 +233,7 @@ fn assigned_at(
 ) -> Result<Result<Assignment, Fault>, AllocError>
     ensures { IfOk result (λ r. r ≡ told (assigned_at scope.now place op x y)) }
 {
-    let d = destination_at(place, x);
+    let d = left_at(place, op, x);
     assigned_to(alloc, scope, place, op, d, y)
 }
 

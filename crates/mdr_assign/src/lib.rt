@@ -1,8 +1,8 @@
-//! Assignments (C99 6.5.16), and `++` and `--` that stand alone (C99 6.5.2.4, 6.5.3.1).
+//! Assignments (C99 6.5.16), and `++` and `--` (C99 6.5.2.4, 6.5.3.1).
 #![tactic(auto)]
 
 mod assignment;
 mod step;
 
 pub use assignment::{Assignment, Destination, assignment_rule, destination_at, told_instead};
-pub use step::{step_operator, step_rule};
+pub use step::{bump_rule, step_operator, step_rule};

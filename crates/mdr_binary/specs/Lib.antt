@@ -1,1 +1,2 @@
 pub mod Binaries
+pub mod Choices

@@ -82,13 +82,13 @@ takes_text o n = is_character o.ty && (o.array && not (nat_lt o.count n))
 abbrev pub is_single : Object → Bool
 is_single o = is_scalar o.ty && not o.array
 
-abbrev pub own_place : (is_object : Bool) → (slot : ℕ) → Lval
-own_place true slot = lval.Object slot
-own_place false slot = lval.Slot slot
+abbrev pub own_place : (is_object : Bool) → (slot : ℕ) → Ty → Lval
+own_place true slot t = lval.Object slot t
+own_place false slot t = lval.Slot slot t
 
 abbrev pub initial_by : Rules → Scope → List LocalName → Place → (slot : ℕ) → (is_taken : Bool) → Written → Option (List ℕ) → Object → Checked Step
 initial_by rules scope names p slot t w (Some bytes) o = chosen (takes_text o (length bytes)) (Right (step.Text slot bytes)) (refuse p Mismatch)
-initial_by rules scope names p slot t w None o = chosen (is_single o) (rules.stored scope names p (own_place (is_own_object t o) slot) o.ty w) (refuse p Mismatch)
+initial_by rules scope names p slot t w None o = chosen (is_single o) (rules.stored scope names p (own_place (is_own_object t o) slot o.ty) o.ty w) (refuse p Mismatch)
 
 -- the initialiser is in the scope of what it is for
 unfoldable pub initial_step : Rules → Scope → Frame → Here → (is_taken : Bool) → Decl → Written → Checked Step

@@ -20,7 +20,7 @@ use crate::here::{Frame, Here};
 use crate::locals::{declare_local, is_own_object, local_object};
 use crate::typing::Typing;
 use mdr_core::{Items, Name, OutOfMemory, Place, Ty};
-use mdr_faults::{Fault, Object, Scope, copied, is_scalar, is_void, mismatch};
+use mdr_faults::{Fault, Object, Scope, copied, copied_type, is_scalar, is_void, mismatch};
 use mdr_headings::is_character;
 use mdr_operand::{LocalName, Operand, expression_of, scalar_at};
 use mdr_rich::{Expr, Lval, Step, Stmt};
@@ -146,13 +146,13 @@ fn is_single(o: &Object) -> bool
     is_scalar(&o.ty) && !o.array
 }
 
-fn own_place(is_object: bool, slot: u32) -> Lval
-    ensures { result ≡ own_place is_object slot }
+fn own_place(is_object: bool, slot: u32, ty: Ty) -> Lval
+    ensures { result ≡ own_place is_object slot ty }
 {
     if is_object {
-        Lval::Object(slot)
+        Lval::Object(slot, ty)
     } else {
-        Lval::Slot(slot)
+        Lval::Slot(slot, ty)
     }
 }
 
@@ -187,7 +187,7 @@ fn value_step<R: Typing>(
     if !is_single(o) {
         return Ok(mismatch(place));
     }
-    let object = own_place(is_own_object(is_taken, o), slot);
+    let object = own_place(is_own_object(is_taken, o), slot, copied_type(alloc, &o.ty)?);
     rules.stored(alloc, scope, names, place, object, &o.ty, form)
 }
 

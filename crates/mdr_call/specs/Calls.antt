@@ -1,20 +1,26 @@
 -- believed
 -- Calls: of functions by name or through a pointer, and of services (C99 6.5.2.2).
-use Rattle.std.specs.Prelude.{Bool, true, false, List, [], Option, Some, None}
+use Rattle.std.specs.Prelude.{Bool, true, false, List, Option, Some, None}
+use Rattle.mdr_rich.specs.declared.code.Callee.{Callee}
+use Rattle.mdr_rich.specs.declared.code.Callee.TheVariants as callee
+use Rattle.mdr_rich.specs.declared.code.CallForm.{CallForm}
+use Rattle.mdr_rich.specs.declared.code.Expr.{Expr}
+use Rattle.mdr_rich.specs.declared.code.Expr.TheVariants as expr
 use Rattle.mdr_core.specs.declared.place.Place.{Place}
+use Rattle.mdr_core.specs.declared.types.Ty.{Ty}
 use Rattle.mdr_core.specs.Layout.{chosen}
 use Rattle.mdr_faults.specs.declared.scope.Scope.{Scope}
 use Rattle.mdr_faults.specs.Declarations.{type_named}
-use Rattle.mdr_faults.specs.Faults.{Checked, Right, next, after, both}
+use Rattle.mdr_faults.specs.Faults.{Checked, Right, after, both}
 use Rattle.mdr_operand.specs.declared.operand.Operand.{Operand}
 use Rattle.mdr_operand.specs.declared.operand.Operand.TheVariants as operand
 use Rattle.mdr_operand.specs.declared.operand.Scalar.{Scalar}
 use Rattle.mdr_operand.specs.declared.operand.Scalar.TheVariants as scalar
 use Rattle.mdr_operand.specs.declared.operator.PrefixOperator.{PrefixOperator}
 use Rattle.mdr_operand.specs.declared.operator.PrefixOperator.TheVariants as prefix
-use Rattle.mdr_operand.specs.Forms.{prefix_rule, scalar_at, value_of}
+use Rattle.mdr_operand.specs.Forms.{prefix_rule, scalar_at, value_at, value_of}
 use Rattle.mdr_operand.specs.Signs.{prefix_operator}
-use Rattle.mdr_operand.specs.Written.{Written, Writtens}
+use Rattle.mdr_operand.specs.Written.{Written}
 use Rattle.mdr_call.specs.declared.parts.Argument.{Argument}
 use Rattle.mdr_call.specs.declared.parts.Argument.TheVariants as argument
 use Rattle.mdr_call.specs.declared.parts.Target.{Target}
@@ -54,9 +60,9 @@ is_star (Some prefix.Not) = false
 is_star (Some prefix.Address) = false
 is_star (Some prefix.Target) = true
 
--- a form with an operator in front, as a callee
-unfoldable pub callee_behind : Place → Option PrefixOperator → Checked Operand → Checked Operand
-callee_behind p op c = chosen (is_star op) (after c (starred_callee p)) (prefix_rule p op c)
+-- a form with an operator in front, as a callee: what it comes to as an expression, and what stands behind the operator
+unfoldable pub callee_behind : Place → Option PrefixOperator → (whole behind : Checked Operand) → Checked Operand
+callee_behind p op whole behind = chosen (is_star op) (after behind (starred_callee p)) whole
 
 abbrev pub as_target : Checked Operand → Checked Target
 as_target c = after c (λ x. Right (target.Callee x))
@@ -65,21 +71,18 @@ abbrev pub named_target : Option Service → Checked Operand → Checked Target
 named_target (Some s) c = Right (target.Service s)
 named_target None c = as_target c
 
-abbrev pub target_of : (typed : Written → Checked Operand) → Written → Checked Target
-target_of typed (Written.Name p name) = named_target (service_named name) (typed (Written.Name p name))
-target_of typed (Written.Prefix p op a) = as_target (callee_behind p (prefix_operator op) (typed a))
-target_of typed w = as_target (typed w)
+abbrev pub target_by : Written → (whole behind : Checked Operand) → Checked Target
+target_by (Written.Name p name) whole behind = named_target (service_named name) whole
+target_by (Written.Prefix p op a) whole behind = as_target (callee_behind p (prefix_operator op) whole behind)
+target_by w whole behind = as_target whole
 
 -- ---- arguments
 
-abbrev pub argument_of : (typed : Written → Checked Operand) → Scope → Written → Checked Argument
-argument_of typed scope (Written.Text p bytes) = Right (argument.Text bytes)
-argument_of typed scope (Written.Names p base n) = after (type_named scope base n) (λ t. Right (argument.Type t))
-argument_of typed scope w = after (typed w) (λ x. Right (argument.Value x))
-
-abbrev pub arguments_of : (typed : Written → Checked Operand) → Scope → Writtens → Checked (List Argument)
-arguments_of typed scope Writtens.End = Right []
-arguments_of typed scope (Writtens.Then w ws) = next (argument_of typed scope w) (arguments_of typed scope ws)
+-- an argument, of which c is what it comes to as an expression
+abbrev pub argument_by : Scope → Written → Checked Operand → Checked Argument
+argument_by scope (Written.Text p bytes) c = Right (argument.Text bytes)
+argument_by scope (Written.Names p base n) c = after (type_named scope base n) (λ t. Right (argument.Type t))
+argument_by scope w c = after c (λ x. Right (argument.Value x))
 
 -- ---- calls
 
@@ -91,6 +94,13 @@ call_by scope p args (target.Callee x) = function_call p args x
 unfoldable pub call_rule : Scope → Place → Checked Target → Checked (List Argument) → Checked TypedCall
 call_rule scope p t args = both t args (λ t args. call_by scope p args t)
 
--- a call as it is written
-abbrev pub call_of : (typed : Written → Checked Operand) → Scope → Place → Written → Writtens → Checked TypedCall
-call_of typed scope p f args = call_rule scope p (target_of typed f) (arguments_of typed scope args)
+-- ---- calls as values
+
+abbrev pub called_by : Ty → CallForm → Callee → Expr
+called_by t f (callee.Direct n) = expr.CallDirect t n f.args
+called_by t f (callee.Through e) = expr.CallThrough t e f.args
+called_by t f (callee.Service n) = expr.CallService t n f.args f.shape f.format
+
+-- what a call gives; one that gives nothing has no value (6.3.2.2)
+unfoldable pub call_value : Place → TypedCall → Checked Operand
+call_value p c = value_at p c.result (called_by c.result c.form c.form.callee)

@@ -13,10 +13,12 @@ mod plain;
 mod printing;
 mod service;
 mod star;
+mod valued;
 mod written;
 
 pub use call::call_rule;
 pub use parts::{Argument, Callable, Handle, Target, TypedCall};
 pub use service::{PlainService, Service, service_named};
-pub use star::{callee_behind, is_handle};
+pub use star::{is_handle, is_star, starred};
+pub use valued::call_value;
 pub use written::argument;

@@ -2,11 +2,11 @@
 
 ghost use Rattle.std.specs.Prelude.{◌≡◌, IfOk, Some};
 ghost use Rattle.mdr_rich.specs.declared.code.Expr.{Expr};
-ghost use Rattle.mdr_faults.specs.Faults.{Checked, Right, told};
+ghost use Rattle.mdr_faults.specs.Faults.{Checked, Right, told, after};
 ghost use Rattle.mdr_operand.specs.declared.operand.Operand.{Operand};
 ghost use Rattle.mdr_operand.specs.Forms.{scalar_of, prefix_rule};
 ghost use Rattle.mdr_operand.specs.declared.operator.PrefixOperator.TheVariants as prefix;
-ghost use Rattle.mdr_call.specs.Calls.{is_handle_value, is_handle, valued, starred_callee, is_star, callee_behind};
+ghost use Rattle.mdr_call.specs.Calls.{is_handle_value, is_handle, valued, starred_callee, is_star};
 
 use mdr_core::{Place, Ty};
 use mdr_faults::Fault;
@@ -80,7 +80,8 @@ fn target_of_pointer(
     prefix(alloc, place, Some(PrefixOperator::Target), Ok(x))
 }
 
-fn is_star(op: Option<PrefixOperator>) -> bool
+/// Whether an operator in front is `*`.
+pub fn is_star(op: Option<PrefixOperator>) -> bool
     ensures { result ≡ is_star op }
 {
     match op {
@@ -94,19 +95,14 @@ fn is_star(op: Option<PrefixOperator>) -> bool
     }
 }
 
-/// A form with an operator in front, as a callee: `*f` is the function that f points to.
-#[tactic(auto, unfolding(crate::specs::Calls::callee_behind))]
-pub fn callee_behind(
+/// `*f` as a callee: the function that f points to.
+pub fn starred(
     alloc: Global,
     place: Place,
-    op: Option<PrefixOperator>,
     x: Result<Operand, Fault>,
 ) -> Result<Result<Operand, Fault>, AllocError>
-    ensures { (c : Checked Operand) → x ≡ told c → IfOk result (λ r. r ≡ told (callee_behind place op c)) }
+    ensures { (c : Checked Operand) → x ≡ told c → IfOk result (λ r. r ≡ told (after c (starred_callee place))) }
 {
-    if !is_star(op) {
-        return prefix(alloc, place, op, x);
-    }
     match x {
         Ok(x) => starred_callee(alloc, place, x),
         Err(fault) => Ok(Err(fault)),

@@ -5,9 +5,9 @@ ghost use Rattle.mdr_core.specs.declared.place.Place.{Place};
 ghost use Rattle.mdr_faults.specs.Declarations.{type_named};
 ghost use Rattle.mdr_faults.specs.Faults.{Checked, Right, told, after};
 ghost use Rattle.mdr_operand.specs.declared.operand.Operand.{Operand};
-ghost use Rattle.mdr_operand.specs.Written.{Written, written_what};
+ghost use Rattle.mdr_operand.specs.Written.{written_what};
 ghost use Rattle.mdr_call.specs.declared.parts.Argument.TheVariants as argument;
-ghost use Rattle.mdr_call.specs.Calls.{argument_of};
+ghost use Rattle.mdr_call.specs.Calls.{argument_by};
 
 use crate::parts::Argument;
 use mdr_core::Name;
@@ -55,7 +55,7 @@ pub fn argument(
     what: &FormWhat,
     x: Result<Operand, Fault>,
 ) -> Result<Result<Argument, Fault>, AllocError>
-    ensures { IfOk result (λ r. (typed : Written → Checked Operand) (p : Place) → x ≡ told (typed (written_what what.now p)) → r ≡ told (argument_of typed scope.now (written_what what.now p))) }
+    ensures { IfOk result (λ r. (c : Checked Operand) (p : Place) → x ≡ told c → r ≡ told (argument_by scope.now (written_what what.now p) c)) }
 {
     match what {
         FormWhat::Number(_, _) => Ok(value(x)),

@@ -5,7 +5,7 @@ use Rattle.mdr_core.specs.declared.plan.Plan.{Plan}
 use Rattle.mdr_core.specs.declared.program.Func.{Func}
 use Rattle.mdr_core.specs.declared.program.Program.{Program}
 use Rattle.mdr_core.specs.Layout.{AreFew}
-use Rattle.mdr_core.specs.TypeText.{IsOrderedTable}
+use Rattle.mdr_lower.specs.Tables.{IsOrderedTable}
 use Rattle.mdr_half.specs.Plans.{plan_text}
 use Rattle.mdr_slice.specs.declared.halves.Halves.{Halves}
 use Rattle.mdr_access.specs.Keys.{HasEach, IsPlan}

@@ -2,7 +2,8 @@
 
 ghost use Rattle.std.specs.Prelude.{◌≡◌, IfOk};
 
-use mdr_core::Boxed;
+use crate::parts::{bump, choice, direct, service, through};
+use mdr_core::{Boxed, Items};
 use mdr_faults::copied_type;
 use mdr_rich::{Expr, Lval};
 use std::alloc::{AllocError, Global};
@@ -23,17 +24,31 @@ fn boxed_lval(alloc: Global, l: &Lval) -> Result<Boxed<Lval>, AllocError>
     Boxed::new(alloc, copy)
 }
 
+#[cycle(copies)]
+fn copied_args(alloc: Global, args: &[Expr]) -> Result<Items<Expr>, AllocError>
+    ensures { IfOk result (λ es. es ≡ args.now) }
+{
+    let mut all = Items::new(alloc);
+    for e in args {
+        all.push(copied_expr(alloc, e)?)?;
+    }
+    Ok(all)
+}
+
 /// The same lvalue once more.
 #[cycle(copies)]
 pub fn copied_lval(alloc: Global, l: &Lval) -> Result<Lval, AllocError>
     ensures { IfOk result (λ c. c ≡ l.now) }
 {
     match l {
-        Lval::Slot(slot) => Ok(Lval::Slot(*slot)),
-        Lval::Object(slot) => Ok(Lval::Object(*slot)),
-        Lval::Global(global) => Ok(Lval::Global(*global)),
+        Lval::Slot(slot, ty) => Ok(Lval::Slot(*slot, copied_type(alloc, ty)?)),
+        Lval::Object(slot, ty) => Ok(Lval::Object(*slot, copied_type(alloc, ty)?)),
+        Lval::Global(global, ty) => Ok(Lval::Global(*global, copied_type(alloc, ty)?)),
         Lval::Deref(e) => Ok(Lval::Deref(boxed_expr(alloc, e.get())?)),
-        Lval::Member(l, field) => Ok(Lval::Member(boxed_lval(alloc, l.get())?, *field)),
+        Lval::Member(l, field, ty) => {
+            let l = boxed_lval(alloc, l.get())?;
+            Ok(Lval::Member(l, *field, copied_type(alloc, ty)?))
+        }
         Lval::Index(l, e) => {
             let l = boxed_lval(alloc, l.get())?;
             let e = boxed_expr(alloc, e.get())?;
@@ -91,5 +106,23 @@ pub fn copied_expr(alloc: Global, e: &Expr) -> Result<Expr, AllocError>
             let b = boxed_expr(alloc, b.get())?;
             Ok(Expr::Diff(a, b))
         }
+        Expr::Cond(ty, c, a, b) => {
+            let c = boxed_expr(alloc, c.get());
+            let a = boxed_expr(alloc, a.get());
+            let b = boxed_expr(alloc, b.get());
+            choice(alloc, ty, c, a, b)
+        }
+        Expr::CallDirect(ty, f, args) => {
+            direct(alloc, ty, *f, copied_args(alloc, args.as_slice()))
+        }
+        Expr::CallThrough(ty, f, args) => {
+            let f = boxed_expr(alloc, f.get());
+            through(alloc, ty, f, copied_args(alloc, args.as_slice()))
+        }
+        Expr::CallService(ty, n, args, shape, format) => {
+            let args = copied_args(alloc, args.as_slice());
+            service(alloc, ty, *n, args, shape, format)
+        }
+        Expr::Bump(ty, up, first, l) => bump(alloc, ty, *up, *first, copied_lval(alloc, l)),
     }
 }

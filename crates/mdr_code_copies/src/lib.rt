@@ -2,5 +2,6 @@
 #![tactic(auto)]
 
 mod expressions;
+mod parts;
 
 pub use expressions::{copied_expr, copied_lval};

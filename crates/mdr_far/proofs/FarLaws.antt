@@ -67,7 +67,7 @@ record AreAnswered (user text : List ℕ) (half : Option HalfState) (answer : Lo
 answered_with : (user text : List ℕ) (half : Option HalfState) (answer : LoadAnswer) → Answered user text half answer → AreAnswered user text half answer
 answered_with user text None answers.Ok a = absurd a
 answered_with user text (Some h) answers.Ok a =
-    let empty : h.exchanges ≡ [] = ap (λ (x : HalfState). x.exchanges) a.begins in
+    let empty : h.exchanges ≡ [] = a.begins in
     record {
       kept = (record { load = record { program = h.program; plan = h.plan; loads = a.loads }; served = λ program plan loads. subst (Honest (driver_of program plan) []) (sym empty) tt }, record { loads = a.loads; answered = refl });
       empty = empty;

@@ -1,6 +1,6 @@
 -- protocol
 -- The fields of the user half, as what callers see, and what holds of them.
-use Rattle.std.specs.Prelude.{[], IfSome, is_none}
+use Rattle.std.specs.Prelude.{[], IfSome, option_map}
 use Rattle.mdr_core.specs.Sound.{IsSound}
 use Rattle.mdr_exchanges.specs.Runs.{sent_of}
 use Rattle.mdr_exchanges.specs.Meanings.{Honest}
@@ -11,7 +11,7 @@ use Rattle.mdr_far.specs.declared.half.UserHalf.TheInside.{Inside}
 use Rattle.mdr_far.specs.Halves.{HalfState}
 
 abbrev pub half_state : Inside → HalfState
-half_state s = record { program = s.program; plan = s.plan; exchanges = s.exchanges; is_lost = is_none s.state }
+half_state s = record { program = s.program; plan = s.plan; exchanges = s.exchanges; memory = option_map (λ state. state.memory) s.state }
 
 pub record IsKeptHalf (s : Inside) : Type 0 where
   pub sound : IsSound s.program

@@ -1,6 +1,6 @@
 -- protocol
 -- The user half, as callers see it.
-use Rattle.std.specs.Prelude.{◌≡◌, ℕ, Bool, true, false, List, [], ◌∷◌, ◌++◌, Some, Result, Ok, Err}
+use Rattle.std.specs.Prelude.{◌≡◌, ℕ, List, [], ◌∷◌, ◌++◌, Option, Some, None, Result, Ok, Err}
 use Rattle.mdr_core.specs.declared.plan.Plan.{Plan}
 use Rattle.mdr_core.specs.declared.program.Program.{Program}
 use Rattle.mdr_exchanges.specs.Runs.{sent_of}
@@ -9,29 +9,30 @@ use Rattle.mdr_half_source.specs.Loads.{AreRefused, Loads}
 use Rattle.mdr_outside.specs.Far.{exchange}
 use Rattle.mdr_outside.specs.declared.far.Exchange.{Exchange}
 use Rattle.mdr_over_bytes.specs.OverBytes.{user_reply_to_bytes}
+use Rattle.mdr_user_memory.specs.Kept.{Kept}
 use Rattle.mdr_watched.specs.Driver.{Driver, driver_of}
 use Rattle.mdr_far.specs.declared.load_error.LoadError.TheVariants as reasons
 use Rattle.mdr_far.specs.declared.load_error.LoadError.{LoadError}
 
--- the program and the plan, the messages since the load with their replies, and whether memory was wanting once
+-- the program and the plan, the messages since the load with their replies, and the half's own memory with its pairs, unless memory was wanting once
 pub record HalfState : Type 0 where
   pub program : Program
   pub plan : Plan
   pub exchanges : List Exchange
-  pub is_lost : Bool
+  pub memory : Option Kept
 
 abbrev pub driver_in : HalfState → Driver
 driver_in h = driver_of h.program h.plan
 
-abbrev pub new_half : Program → Plan → HalfState
-new_half program plan = record { program = program; plan = plan; exchanges = []; is_lost = false }
+abbrev pub new_half : Program → Plan → Option Kept → HalfState
+new_half program plan memory = record { program = program; plan = plan; exchanges = []; memory = memory }
 
--- after a message that was replied to, and after one for which memory was wanting
-abbrev pub after_reply : HalfState → List ℕ → List ℕ → HalfState
-after_reply h sent reply = record h { exchanges = h.exchanges ++ exchange sent (Some reply) ∷ [] }
+-- after a message that was replied to, with this memory, and after one for which memory was wanting
+abbrev pub after_reply : HalfState → List ℕ → List ℕ → Option Kept → HalfState
+after_reply h sent reply memory = record h { exchanges = h.exchanges ++ exchange sent (Some reply) ∷ []; memory = memory }
 
 abbrev pub lost : HalfState → HalfState
-lost h = record h { is_lost = true }
+lost h = record h { memory = None }
 
 -- whatever messages come, one half replies to them as the other
 abbrev pub ReplyAlike : HalfState → HalfState → Type 0
@@ -42,7 +43,7 @@ ReplyAlike h h' =
 -- a half is the one that the texts load
 pub record IsLoadedFrom (user text : List ℕ) (h : HalfState) : Type 0 where
   pub loads : Loads user text h.program h.plan
-  pub begins : h ≡ new_half h.program h.plan
+  pub begins : h.exchanges ≡ []
 
 -- the texts are refused for one of two causes. Want of memory says nothing
 abbrev pub FailToLoad : List ℕ → List ℕ → LoadError → Type 0

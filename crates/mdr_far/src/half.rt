@@ -1,7 +1,7 @@
 // The user half over bytes.
 
 ghost use Rattle.std.specs.Option.{option_copied};
-ghost use Rattle.std.specs.Prelude.{◌≡◌, ℕ, [], ◌∷◌, ◌++◌, false, is_none, Some, Ok, IfOk, IfSome, OnErr};
+ghost use Rattle.std.specs.Prelude.{◌≡◌, ℕ, [], ◌∷◌, ◌++◌, true, is_some, option_map, Some, Ok, IfOk, IfSome, OnErr};
 ghost use Rattle.mdr_core.specs.Sound.{IsSound};
 ghost use Rattle.mdr_exchanges.specs.Runs.{sent_of};
 ghost use Rattle.mdr_exchanges.specs.Meanings.{Honest};
@@ -11,10 +11,11 @@ ghost use Rattle.mdr_outside.specs.Far.{exchange};
 ghost use Rattle.mdr_over_bytes.specs.OverBytes.{IsHonestReply};
 ghost use Rattle.mdr_model.specs.Bytes.{readings};
 ghost use Rattle.mdr_track.specs.Tracked.{pairs_of};
-ghost use Rattle.mdr_user_code.specs.Standing.{Follows, IsFit, user_memory};
+ghost use Rattle.mdr_region.specs.Layout.{places_of};
+ghost use Rattle.mdr_user_code.specs.Standing.{Follows, IsFit};
 ghost use Rattle.mdr_user_memory.specs.Paired.{Paired};
 ghost use Rattle.mdr_watched.specs.Driver.{driver_of};
-ghost use Rattle.mdr_far.specs.Memories.{ArePairsOf, IsLayoutOf};
+ghost use Rattle.mdr_far.specs.Memories.{ArePairsOf, HoldsMemory, IsLayoutOf, memory_of};
 ghost use Rattle.mdr_far.specs.Halves.{new_half, after_reply, lost, driver_in, ReplyAlike, Load};
 
 use crate::bytes::reply_to;
@@ -86,7 +87,7 @@ fn half_of(alloc: Global, source: HalfSource, state: State) -> UserHalf
     requires sound { IsSound source.program }
     requires fit { IsFit source.plan source.program }
     requires begins { Follows (driver_of source.program source.plan) [] state }
-    ensures { result ≡ new_half source.program source.plan }
+    ensures { result ≡ new_half source.program source.plan (Some state.memory) }
 {
     let HalfSource { program, plan } = source;
     UserHalf {
@@ -101,17 +102,22 @@ impl UserHalf {
     fn begin(alloc: Global, source: HalfSource) -> Result<UserHalf, OutOfMemory>
         requires sound { IsSound source.program }
         requires fit { IsFit source.plan source.program }
-        ensures { IfOk result (λ h. h ≡ new_half source.program source.plan) }
+        ensures begun { IfOk result (λ h. h ≡ new_half source.program source.plan h.memory) }
+        ensures paired { IfOk result HoldsMemory }
     {
         match begins(alloc, &source.program, &source.plan) {
-            Ok(state) => Ok(half_of(alloc, source, state)),
+            Ok(state) => {
+                state.memory().is_paired();
+                Ok(half_of(alloc, source, state))
+            }
             Err(error) => given_up(error, source),
         }
     }
 
-    /// The half of the text of a user half and of the text of its plan. The plan's is judged first.
+    /// The half of the text of a user half and of the text of its plan, with its memory. The plan's is judged first.
     pub fn load(alloc: Global, user: &[u8], plan: &[u8]) -> Result<UserHalf, LoadError>
-        ensures { Load user.now plan.now result }
+        ensures load { Load user.now plan.now result }
+        ensures paired { IfOk result HoldsMemory }
     {
         let source = source(alloc, user, plan)?;
         let half = UserHalf::begin(alloc, source)?;
@@ -119,13 +125,14 @@ impl UserHalf {
     }
 
     /// The reply to a message. A message that is refused leaves the half as it was: it replies from then on as if
-    /// the message hadn't come.
+    /// the message hadn't come. After each reply it holds the memory that the definition's user half has then.
     pub fn deliver(&mut self, alloc: Global, bytes: &[u8]) -> Result<Vec<u8>, OutOfMemory>
         ensures reply { IfOk result (λ reply. IsHonestReply (driver_in self.old) (sent_of self.old.exchanges) bytes.now reply.items) }
-        ensures kept { IfOk result (λ reply. self.new ≡ after_reply self.old bytes.now reply.items) }
+        ensures kept { IfOk result (λ reply. self.new ≡ after_reply self.old bytes.now reply.items self.new.memory) }
+        ensures paired { IfOk result (λ reply. HoldsMemory self.new) }
         ensures refused { IfOk result (λ reply. (reason : ℕ) → reply.items ≡ text (Refuse reason) → ReplyAlike self.new self.old) }
         ensures err { OnErr result (self.new ≡ lost self.old) }
-        ensures held { IfOk result (λ reply. self.old.is_lost ≡ false) }
+        ensures held { IfOk result (λ reply. is_some self.old.memory ≡ true) }
     {
         let Some(mut state) = self.state.take() else {
             return Err(OutOfMemory::unmet());
@@ -133,6 +140,7 @@ impl UserHalf {
         let reply = reply_to(alloc, &self.program, &self.plan, &mut state, bytes);
         match recorded(alloc, &mut self.exchanges, bytes, reply) {
             Ok(reply) => {
+                state.memory().is_paired();
                 put(&mut self.state, Some(state));
                 Ok(reply)
             }
@@ -151,8 +159,8 @@ impl UserHalf {
     /// blocks of the user half's memory after the messages so far, each of them is live there with its kind and shape, no other
     /// block is, and each cell has its value, with pointers taken through the pairs.
     pub fn memory(&self) -> Option<&UserMemory>
-        ensures there { is_none (option_copied result) ≡ self.now.is_lost }
-        ensures paired { IfSome (option_copied result) (λ u. Paired (user_memory (driver_in self.now) (readings (sent_of self.now.exchanges))) u.region.contents (pairs_of u.pairs)) }
+        ensures there { option_copied result ≡ self.now.memory }
+        ensures paired { IfSome (option_copied result) (λ u. Paired (memory_of self.now) u.region.contents (pairs_of u.pairs)) }
     {
         match &self.state {
             Some(state) => {
@@ -166,8 +174,8 @@ impl UserHalf {
 
     /// Lends the pairs of that memory's blocks with the kernel's serials, while memory wasn't wanting.
     pub fn pairs(&self) -> Option<&Tracker>
-        ensures there { is_none (option_copied result) ≡ self.now.is_lost }
-        ensures paired { IfSome (option_copied result) (λ t. ArePairsOf (user_memory (driver_in self.now) (readings (sent_of self.now.exchanges))) (pairs_of t)) }
+        ensures there { option_copied result ≡ option_map (λ u. u.pairs) self.now.memory }
+        ensures paired { IfSome (option_copied result) (λ t. ArePairsOf (memory_of self.now) (pairs_of t)) }
     {
         match self.memory() {
             Some(memory) => Some(memory.pairs()),
@@ -177,8 +185,8 @@ impl UserHalf {
 
     /// How many places of that memory are used, and how many there are, while memory wasn't wanting.
     pub fn layout(&self) -> Option<(u64, u64)>
-        ensures there { is_none result ≡ self.now.is_lost }
-        ensures laid { IfSome result (IsLayoutOf (user_memory (driver_in self.now) (readings (sent_of self.now.exchanges)))) }
+        ensures there { result ≡ option_map (λ u. places_of u.region.contents.lives) self.now.memory }
+        ensures laid { IfSome result (IsLayoutOf (memory_of self.now)) }
     {
         match self.memory() {
             Some(memory) => Some(memory.region().layout()),

@@ -4,10 +4,10 @@ use Rattle.std.specs.List.{list_all}
 use Rattle.mdr_core.specs.declared.program.Func.{Func}
 use Rattle.mdr_core.specs.declared.program.Program.{Program}
 use Rattle.mdr_core.specs.declared.program.StructDef.{StructDef}
-use Rattle.mdr_core.specs.TypeText.{IsOrderedTable}
 use Rattle.mdr_syntax.specs.Bytes.{is_name_byte}
 use Rattle.mdr_syntax.specs.declared.tree.Item.{Item}
 use Rattle.mdr_faults.specs.Faults.{Right}
+use Rattle.mdr_lower.specs.Tables.{IsOrderedTable}
 use Rattle.mdr_check.specs.declared.file.Piece.{Piece}
 use Rattle.mdr_check.specs.Files.{BodyRule}
 use Rattle.mdr_check.specs.Uses.{UseRule}

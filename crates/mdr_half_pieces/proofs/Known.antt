@@ -12,7 +12,7 @@ use Rattle.mdr_headings.specs.Source.{defines_behind, defines_from, scope_of, ta
 use Rattle.mdr_syntax.specs.declared.tree.Head.{Head}
 use Rattle.mdr_syntax.specs.declared.tree.Item.{Item}
 use Rattle.mdr_syntax.specs.declared.tree.ItemWhat.{ItemWhat}
-use Rattle.std.proofs.Common.{Bool, List, [], ap, false, length, map, refl, true, ℕ, ◌||◌, ◌∙◌, ◌∷◌, ◌≡◌}
+use Rattle.std.proofs.Common.{Bool, List, [], ap, false, map, refl, true, ℕ, ◌||◌, ◌∙◌, ◌∷◌, ◌≡◌}
 use Rattle.mdr_check.specs.Files.{behind_item, first_known, first_scope, known_behind, outlines_behind, outlines_from, with_outlines}
 use Rattle.mdr_headings.specs.Names.{Verdict}
 use Rattle.mdr_half.specs.Halves.{half_of, is_same_half, remote, body_or_remote, what_in, item_in}

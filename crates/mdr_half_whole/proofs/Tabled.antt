@@ -6,7 +6,6 @@ use Rattle.mdr_core.specs.declared.plan.Plan.{Plan}
 use Rattle.mdr_core.specs.declared.types.Ty.{Ty}
 use Rattle.mdr_core.specs.Sound.{IsObjectSort}
 use Rattle.mdr_core.specs.Types.{Wrong}
-use Rattle.mdr_core.specs.TypeText.{Occurs}
 use Rattle.mdr_syntax.specs.Bytes.{is_name_byte}
 use Rattle.mdr_syntax.specs.declared.tree.Item.{Item}
 use Rattle.mdr_syntax.specs.declared.tree.ItemWhat.{ItemWhat}
@@ -16,6 +15,7 @@ use Rattle.mdr_faults.specs.Alike.{is_alike}
 use Rattle.mdr_faults.specs.Faults.{Checked, Right, after}
 use Rattle.mdr_body.specs.Bodies.{body_rule}
 use Rattle.mdr_body.specs.Uses.{first_use}
+use Rattle.mdr_lower.specs.Tables.{Occurs}
 use Rattle.mdr_typing.specs.Profile.{profile_rules}
 use Rattle.mdr_check.specs.declared.file.Piece.{Piece}
 use Rattle.mdr_check.specs.Whole.{file_pieces}
@@ -40,8 +40,8 @@ use Rattle.mdr_sound.specs.Whole.{HasAll}
 use Rattle.mdr_sound.proofs.Filed.{types_of_files}
 use Rattle.mdr_sound.specs.ProperSources.{AreProperItems, IsProperItem}
 use Rattle.mdr_sound.proofs.Itemising.{bytes_proper}
-use Rattle.mdr_sound.proofs.Allocating.{profile_formed}
-use Rattle.mdr_sound.proofs.Sourced.{ranges_of}
+use Rattle.mdr_sound.proofs.Sourced.{ranges_of, bodies_of}
+use Rattle.mdr_sound.proofs.Stating.{profile_sound}
 use Rattle.mdr_half_whole.specs.HalfTypes.{PlansHaveTheTypes}
 use Rattle.mdr_half_whole.proofs.Sourced.{sources_have}
 use Rattle.mdr_half_whole.proofs.Among.{types_occur_there}
@@ -129,5 +129,5 @@ pub plans_have : PlansHaveTheTypes
 plans_have bytes tokens half plan tree xs lexed reads e few types =
     let bodies = sources_have bytes tokens tree xs lexed reads e in
     let proper = bytes_proper bytes false tokens tree lexed reads in
-    let formed = types_of_files (program_of xs) profile_rules first_use tree.items (typed_by tree.items xs e) (ranges_of tree.items proper) (profile_formed (program_of xs)) in
+    let formed = types_of_files (program_of xs) profile_rules first_use tree.items (typed_by tree.items xs e) (ranges_of tree.items proper) (bodies_of tree.items proper) (λ scope known slots. profile_sound (program_of xs) slots scope known) in
     plans_by half plan tree xs proper formed e bodies few types

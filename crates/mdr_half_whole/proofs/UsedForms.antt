@@ -11,7 +11,7 @@ use Rattle.mdr_syntax.specs.declared.tree.Base.{Base}
 use Rattle.mdr_faults.specs.declared.scope.Named.{Named}
 use Rattle.mdr_faults.specs.declared.scope.Scope.{Scope}
 use Rattle.mdr_faults.specs.Declarations.{type_named}
-use Rattle.mdr_faults.specs.Faults.{Checked, Right, again, after}
+use Rattle.mdr_faults.specs.Faults.{Checked, Right, again, after, both}
 use Rattle.mdr_faults.specs.Scopes.{entity_named, or_else}
 use Rattle.mdr_operand.specs.declared.operand.Operand.{Operand}
 use Rattle.mdr_operand.specs.declared.operator.PrefixOperator.{PrefixOperator}
@@ -22,24 +22,24 @@ use Rattle.mdr_operand.specs.Rooms.{local_named}
 use Rattle.mdr_operand.specs.Signs.{assignment_operator, binary_operator, prefix_operator}
 use Rattle.mdr_operand.specs.Written.{Written, Writtens}
 use Rattle.mdr_binary.specs.Binaries.{binary_by, binary_rule}
+use Rattle.mdr_binary.specs.Choices.{choice_of, choice_rule, paired}
 use Rattle.mdr_postfix.specs.Members.{member_of, member_rule}
 use Rattle.mdr_postfix.specs.Names.{entity_operand, file_name, local_or, name_rule}
 use Rattle.mdr_postfix.specs.Subscripts.{subscript_of, subscript_rule}
-use Rattle.mdr_express.specs.Expressions.{signed_rule, typed}
+use Rattle.mdr_express.specs.Expressions.{arguments_of, behind_sign, call_at, fronted_by, fronted_rule, signed_rule, target_of, typed}
 use Rattle.mdr_call.specs.declared.parts.Argument.{Argument}
 use Rattle.mdr_call.specs.declared.parts.Argument.TheVariants as argument
 use Rattle.mdr_call.specs.declared.parts.Target.{Target}
 use Rattle.mdr_call.specs.declared.parts.Target.TheVariants as target
 use Rattle.mdr_call.specs.declared.parts.TypedCall.{TypedCall}
 use Rattle.mdr_call.specs.declared.service.Service.{Service}
-use Rattle.mdr_call.specs.Calls.{argument_of, arguments_of, call_by, call_rule, callee_behind, is_star, named_target, starred_callee, target_of}
+use Rattle.mdr_call.specs.Calls.{argument_by, as_target, call_by, call_rule, call_value, callee_behind, is_star, named_target, starred_callee}
 use Rattle.mdr_call.specs.Services.{service_named}
-use Rattle.mdr_assign.specs.Assignments.{step_operator, step_rule, stepped_at}
+use Rattle.mdr_assign.specs.Assignments.{bump_at, bump_rule, step_operator, step_rule, stepped_at}
 use Rattle.mdr_body.specs.Uses.{use_among, use_in}
 use Rattle.mdr_typing.specs.declared.source.Source.{Source}
-use Rattle.mdr_typing.specs.Calling.{call_at}
 use Rattle.mdr_typing.specs.Profile.{assigned, called, calling, returned, stepped, stored}
-use Rattle.mdr_typing.specs.Sources.{assigning, call_source, source_assigned, source_of, source_returned, source_stored, value_source}
+use Rattle.mdr_typing.specs.Sources.{assigning, call_source, cast_source, source_assigned, source_of, source_returned, source_stored, value_source}
 use Rattle.mdr_sound_code.proofs.Rights.{after_right, again_right, both_right, not_right}
 use Rattle.mdr_half_whole.specs.Usable.{GivesNothing, IsUseless}
 
@@ -66,14 +66,6 @@ prefix_comes : (p : Place) (op : Option PrefixOperator) (c : Checked Operand) (x
 unfolding prefix_rule
 prefix_comes p op c x e = let a = after_right c (prefix_by p op) x e in record { value = a.value; right = a.right }
 
-callee_comes : (p : Place) (op : Option PrefixOperator) (c : Checked Operand) (x : Operand) → callee_behind p op c ≡ Right x → Comes c
-unfolding callee_behind
-callee_comes p op c x e = by (is_star op) e
-  where
-    by : (t : Bool) → chosen t (after c (starred_callee p)) (prefix_rule p op c) ≡ Right x → Comes c
-    by true f = let a = after_right c (starred_callee p) x f in record { value = a.value; right = a.right }
-    by false f = prefix_comes p op c x f
-
 module _ (scope : Scope) (name : List ℕ) (gives : GivesNothing (entity_named scope name)) (plain : service_named name ≡ None) where
   cast_comes : (p : Place) (b : Base) (n : ℕ) (c : Checked Operand) (x : Operand) → cast_rule scope p b n c ≡ Right x → Comes c
   unfolding cast_rule
@@ -82,6 +74,36 @@ module _ (scope : Scope) (name : List ℕ) (gives : GivesNothing (entity_named s
   member_comes : (p at : Place) (is_arrow : Bool) (other : List ℕ) (c : Checked Operand) (x : Operand) → member_rule scope p at is_arrow other c ≡ Right x → Comes c
   unfolding member_rule
   member_comes p at is_arrow other c x e = let a = after_right c (member_of scope p at is_arrow other) x e in record { value = a.value; right = a.right }
+
+  bump_comes : (p : Place) (first : Bool) (up : Option Bool) (c : Checked Operand) (x : Operand) → bump_rule scope p first up c ≡ Right x → Comes c
+  unfolding bump_rule
+  bump_comes p first up c x e = let a = after_right c (bump_at scope p first up) x e in record { value = a.value; right = a.right }
+
+  fronted_comes : (p : Place) (sign : List ℕ) (c : Checked Operand) (x : Operand) → fronted_rule scope p sign c ≡ Right x → Comes c
+  unfolding fronted_rule
+  fronted_comes p sign c x e = by (step_operator sign) e
+    where
+      by : (up : Option Bool) → fronted_by scope p up (prefix_operator sign) c ≡ Right x → Comes c
+      by None f = prefix_comes p (prefix_operator sign) c x f
+      by (Some up) f = bump_comes p true (Some up) c x f
+
+  test_comes : (p : Place) (c a b : Checked Operand) (x : Operand) → choice_rule p c a b ≡ Right x → Comes c
+  unfolding choice_rule
+  test_comes p c a b x e = let d = both_right c (both a b paired) (choice_of p) x e in record { value = d.left; right = d.first }
+
+  one_comes : (p : Place) (c a b : Checked Operand) (x : Operand) → choice_rule p c a b ≡ Right x → Comes a
+  unfolding choice_rule
+  one_comes p c a b x e =
+      let d = both_right c (both a b paired) (choice_of p) x e in
+      let f = both_right a b paired d.right d.second in
+      record { value = f.left; right = f.first }
+
+  other_comes : (p : Place) (c a b : Checked Operand) (x : Operand) → choice_rule p c a b ≡ Right x → Comes b
+  unfolding choice_rule
+  other_comes p c a b x e =
+      let d = both_right c (both a b paired) (choice_of p) x e in
+      let f = both_right a b paired d.right d.second in
+      record { value = f.right; right = f.second }
 
   binary_first : (p : Place) (sign : List ℕ) (a b : Checked Operand) (x : Operand) → signed_rule scope p sign a b ≡ Right x → Comes a
   unfolding signed_rule binary_rule
@@ -119,35 +141,26 @@ module _ (scope : Scope) (name : List ℕ) (gives : GivesNothing (entity_named s
             let here = subst (λ n. local_or (local_named names n) (file_name p (entity_named scope n)) ≡ Right x) ((bytes_eq-Decides other name).0 q) e in
             file_refused p (entity_named scope name) x gives (sym (ap (λ o. local_or o (file_name p (entity_named scope name))) free) ∙ here)
 
-    pub typed_free : (w : Written) (x : Operand) → typed scope names w ≡ Right x → use_in name w ≡ None
-    typed_free (Written.Number p n k) x e = refl
-    typed_free (Written.Null p) x e = refl
-    typed_free (Written.Name p other) x e = name_free p other x e
-    typed_free (Written.Prefix p op a) x e = let c = prefix_comes p (prefix_operator op) (typed scope names a) x e in typed_free a c.value c.right
-    typed_free (Written.Post p op a) x e = not_right _ x e
-    typed_free (Written.Cast p b n a) x e = let c = cast_comes p b n (typed scope names a) x e in typed_free a c.value c.right
-    typed_free (Written.Binary p op a b) x e =
-        let c = binary_first p op (typed scope names a) (typed scope names b) x e in
-        let d = binary_second p op (typed scope names a) (typed scope names b) x e in
-        neither (use_in name a) (use_in name b) (typed_free a c.value c.right) (typed_free b d.value d.right)
-    typed_free (Written.Choice p c a b) x e = not_right _ x e
-    typed_free (Written.Subscript p a i) x e =
-        let c = array_comes p (typed scope names a) (typed scope names i) x e in
-        let d = index_comes p (typed scope names a) (typed scope names i) x e in
-        neither (use_in name a) (use_in name i) (typed_free a c.value c.right) (typed_free i d.value d.right)
-    typed_free (Written.Member p a is_arrow at other) x e = let c = member_comes p at is_arrow other (typed scope names a) x e in typed_free a c.value c.right
-    typed_free (Written.Call p f args) x e = not_right _ x e
-    typed_free (Written.Text p bytes) x e = refl
-    typed_free (Written.Names p b n) x e = refl
+    -- ---- what is called, and arguments
 
-    -- ---- calls
+    -- of a form all is known that it comes to
+    abbrev IsFree : Written → Type 0
+    IsFree w = (x : Operand) → typed scope names w ≡ Right x → use_in name w ≡ None
 
-    callee_free : (w : Written) (t : Target) → after (typed scope names w) (λ x. Right (target.Callee x)) ≡ Right t → use_in name w ≡ None
-    callee_free w t e = let a = after_right (typed scope names w) (λ x. Right (target.Callee x)) t e in typed_free w a.value a.right
+    -- a use behind the sign in front of a form
+    abbrev use_behind : Written → Option Place
+    use_behind (Written.Prefix p op a) = use_in name a
+    use_behind w = None
 
-    named_free : (p : Place) (other : List ℕ) (t : Target) (o : Option Service) → service_named other ≡ o → named_target o (typed scope names (Written.Name p other)) ≡ Right t → use_in name (Written.Name p other) ≡ None
-    named_free p other t None q e = callee_free (Written.Name p other) t e
-    named_free p other t (Some s) q e = by (bytes_eq other name) refl
+    abbrev IsFreeBehind : Written → Type 0
+    IsFreeBehind w = (x : Operand) → behind_sign scope names w ≡ Right x → use_behind w ≡ None
+
+    callee_free : (w : Written) (t : Target) → IsFree w → as_target (typed scope names w) ≡ Right t → use_in name w ≡ None
+    callee_free w t known e = let a = after_right (typed scope names w) (λ x. Right (target.Callee x)) t e in known a.value a.right
+
+    named_free : (p : Place) (other : List ℕ) (t : Target) (o : Option Service) → IsFree (Written.Name p other) → service_named other ≡ o → named_target o (typed scope names (Written.Name p other)) ≡ Right t → use_in name (Written.Name p other) ≡ None
+    named_free p other t None known q e = callee_free (Written.Name p other) t known e
+    named_free p other t (Some s) known q e = by (bytes_eq other name) refl
       where
         by : (b : Bool) → bytes_eq other name ≡ b → chosen b (Some p) None ≡ None
         by false k = refl
@@ -155,53 +168,112 @@ module _ (scope : Scope) (name : List ℕ) (gives : GivesNothing (entity_named s
             let none : Some s ≡ None = sym q ∙ ap service_named ((bytes_eq-Decides other name).0 k) ∙ plain in
             absurd cc
 
-    target_free : (w : Written) (t : Target) → target_of (typed scope names) w ≡ Right t → use_in name w ≡ None
-    target_free (Written.Number p n k) t e = refl
-    target_free (Written.Null p) t e = refl
-    target_free (Written.Name p other) t e = named_free p other t (service_named other) refl e
-    target_free (Written.Prefix p op a) t e =
-        let b = after_right (callee_behind p (prefix_operator op) (typed scope names a)) (λ x. Right (target.Callee x)) t e in
-        let c = callee_comes p (prefix_operator op) (typed scope names a) b.value b.right in
-        typed_free a c.value c.right
-    target_free (Written.Post p op a) t e = callee_free (Written.Post p op a) t e
-    target_free (Written.Cast p b n a) t e = callee_free (Written.Cast p b n a) t e
-    target_free (Written.Binary p op a b) t e = callee_free (Written.Binary p op a b) t e
-    target_free (Written.Choice p c a b) t e = callee_free (Written.Choice p c a b) t e
-    target_free (Written.Subscript p a i) t e = callee_free (Written.Subscript p a i) t e
-    target_free (Written.Member p a is_arrow at other) t e = callee_free (Written.Member p a is_arrow at other) t e
-    target_free (Written.Call p f args) t e = callee_free (Written.Call p f args) t e
-    target_free (Written.Text p bytes) t e = refl
-    target_free (Written.Names p b n) t e = refl
+    starred_free : (p : Place) (op : Option PrefixOperator) (w a : Written) (x : Operand) → IsFree w → ((y : Operand) → typed scope names a ≡ Right y → use_in name w ≡ None)
+        → callee_behind p op (typed scope names w) (typed scope names a) ≡ Right x → use_in name w ≡ None
+    unfolding callee_behind
+    starred_free p op w a x known behind e = by (is_star op) e
+      where
+        by : (t : Bool) → chosen t (after (typed scope names a) (starred_callee p)) (typed scope names w) ≡ Right x → use_in name w ≡ None
+        by true f = let b = after_right (typed scope names a) (starred_callee p) x f in behind b.value b.right
+        by false f = known x f
 
-    value_free : (w : Written) (y : Argument) → after (typed scope names w) (λ x. Right (argument.Value x)) ≡ Right y → use_in name w ≡ None
-    value_free w y e = let a = after_right (typed scope names w) (λ x. Right (argument.Value x)) y e in typed_free w a.value a.right
+    target_free : (w : Written) (t : Target) → IsFree w → IsFreeBehind w → target_of scope names w ≡ Right t → use_in name w ≡ None
+    target_free (Written.Number p n k) t known behind e = refl
+    target_free (Written.Null p) t known behind e = refl
+    target_free (Written.Name p other) t known behind e = named_free p other t (service_named other) known refl e
+    target_free (Written.Prefix p op a) t known behind e =
+        let b = after_right (callee_behind p (prefix_operator op) (typed scope names (Written.Prefix p op a)) (typed scope names a)) (λ x. Right (target.Callee x)) t e in
+        starred_free p (prefix_operator op) (Written.Prefix p op a) a b.value known behind b.right
+    target_free (Written.Post p op a) t known behind e = callee_free (Written.Post p op a) t known e
+    target_free (Written.Cast p b n a) t known behind e = callee_free (Written.Cast p b n a) t known e
+    target_free (Written.Binary p op a b) t known behind e = callee_free (Written.Binary p op a b) t known e
+    target_free (Written.Choice p c a b) t known behind e = callee_free (Written.Choice p c a b) t known e
+    target_free (Written.Subscript p a i) t known behind e = callee_free (Written.Subscript p a i) t known e
+    target_free (Written.Member p a is_arrow at other) t known behind e = callee_free (Written.Member p a is_arrow at other) t known e
+    target_free (Written.Call p f args) t known behind e = callee_free (Written.Call p f args) t known e
+    target_free (Written.Text p bytes) t known behind e = refl
+    target_free (Written.Names p b n) t known behind e = refl
 
-    argument_free : (w : Written) (y : Argument) → argument_of (typed scope names) scope w ≡ Right y → use_in name w ≡ None
-    argument_free (Written.Number p n k) y e = refl
-    argument_free (Written.Null p) y e = refl
-    argument_free (Written.Name p other) y e = value_free (Written.Name p other) y e
-    argument_free (Written.Prefix p op a) y e = value_free (Written.Prefix p op a) y e
-    argument_free (Written.Post p op a) y e = value_free (Written.Post p op a) y e
-    argument_free (Written.Cast p b n a) y e = value_free (Written.Cast p b n a) y e
-    argument_free (Written.Binary p op a b) y e = value_free (Written.Binary p op a b) y e
-    argument_free (Written.Choice p c a b) y e = value_free (Written.Choice p c a b) y e
-    argument_free (Written.Subscript p a i) y e = value_free (Written.Subscript p a i) y e
-    argument_free (Written.Member p a is_arrow at other) y e = value_free (Written.Member p a is_arrow at other) y e
-    argument_free (Written.Call p f args) y e = value_free (Written.Call p f args) y e
-    argument_free (Written.Text p bytes) y e = refl
-    argument_free (Written.Names p b n) y e = refl
+    value_free : (w : Written) (y : Argument) → IsFree w → after (typed scope names w) (λ x. Right (argument.Value x)) ≡ Right y → use_in name w ≡ None
+    value_free w y known e = let a = after_right (typed scope names w) (λ x. Right (argument.Value x)) y e in known a.value a.right
 
-    arguments_free : (ws : Writtens) (ys : List Argument) → arguments_of (typed scope names) scope ws ≡ Right ys → use_among name ws ≡ None
-    arguments_free Writtens.End ys e = refl
-    arguments_free (Writtens.Then w ws) ys e =
-        let b = both_right (argument_of (typed scope names) scope w) (arguments_of (typed scope names) scope ws) (λ x xs. Right (x ∷ xs)) ys e in
-        neither (use_in name w) (use_among name ws) (argument_free w b.left b.first) (arguments_free ws b.right b.second)
+    argument_free : (w : Written) (y : Argument) → IsFree w → argument_by scope w (typed scope names w) ≡ Right y → use_in name w ≡ None
+    argument_free (Written.Number p n k) y known e = refl
+    argument_free (Written.Null p) y known e = refl
+    argument_free (Written.Name p other) y known e = value_free (Written.Name p other) y known e
+    argument_free (Written.Prefix p op a) y known e = value_free (Written.Prefix p op a) y known e
+    argument_free (Written.Post p op a) y known e = value_free (Written.Post p op a) y known e
+    argument_free (Written.Cast p b n a) y known e = value_free (Written.Cast p b n a) y known e
+    argument_free (Written.Binary p op a b) y known e = value_free (Written.Binary p op a b) y known e
+    argument_free (Written.Choice p c a b) y known e = value_free (Written.Choice p c a b) y known e
+    argument_free (Written.Subscript p a i) y known e = value_free (Written.Subscript p a i) y known e
+    argument_free (Written.Member p a is_arrow at other) y known e = value_free (Written.Member p a is_arrow at other) y known e
+    argument_free (Written.Call p f args) y known e = value_free (Written.Call p f args) y known e
+    argument_free (Written.Text p bytes) y known e = refl
+    argument_free (Written.Names p b n) y known e = refl
+
+    call_by_free : (p : Place) (f : Written) (args : Writtens) (c : TypedCall) → IsFree f → IsFreeBehind f → ((ys : List Argument) → arguments_of scope names args ≡ Right ys → use_among name args ≡ None)
+        → call_rule scope p (target_of scope names f) (arguments_of scope names args) ≡ Right c → or_else (use_in name f) (use_among name args) ≡ None
+    unfolding call_rule
+    call_by_free p f args c known behind all e =
+        let b = both_right (target_of scope names f) (arguments_of scope names args) (λ t args. call_by scope p args t) c e in
+        neither (use_in name f) (use_among name args) (target_free f b.left known behind b.first) (all b.right b.second)
+
+    -- ---- expressions
+
+    mutual
+      pub typed_free : (w : Written) (x : Operand) → typed scope names w ≡ Right x → use_in name w ≡ None
+      typed_free (Written.Number p n k) x e = refl
+      typed_free (Written.Null p) x e = refl
+      typed_free (Written.Name p other) x e = name_free p other x e
+      typed_free (Written.Prefix p op a) x e = let c = fronted_comes p op (typed scope names a) x e in typed_free a c.value c.right
+      typed_free (Written.Post p op a) x e = let c = bump_comes p false (step_operator op) (typed scope names a) x e in typed_free a c.value c.right
+      typed_free (Written.Cast p b n a) x e = let c = cast_comes p b n (typed scope names a) x e in typed_free a c.value c.right
+      typed_free (Written.Binary p op a b) x e =
+          let c = binary_first p op (typed scope names a) (typed scope names b) x e in
+          let d = binary_second p op (typed scope names a) (typed scope names b) x e in
+          neither (use_in name a) (use_in name b) (typed_free a c.value c.right) (typed_free b d.value d.right)
+      typed_free (Written.Choice p c a b) x e =
+          let d = test_comes p (typed scope names c) (typed scope names a) (typed scope names b) x e in
+          let f = one_comes p (typed scope names c) (typed scope names a) (typed scope names b) x e in
+          let g = other_comes p (typed scope names c) (typed scope names a) (typed scope names b) x e in
+          neither (use_in name c) (or_else (use_in name a) (use_in name b)) (typed_free c d.value d.right)
+          (neither (use_in name a) (use_in name b) (typed_free a f.value f.right) (typed_free b g.value g.right))
+      typed_free (Written.Subscript p a i) x e =
+          let c = array_comes p (typed scope names a) (typed scope names i) x e in
+          let d = index_comes p (typed scope names a) (typed scope names i) x e in
+          neither (use_in name a) (use_in name i) (typed_free a c.value c.right) (typed_free i d.value d.right)
+      typed_free (Written.Member p a is_arrow at other) x e = let c = member_comes p at is_arrow other (typed scope names a) x e in typed_free a c.value c.right
+      typed_free (Written.Call p f args) x e =
+          let c = after_right (call_rule scope p (target_of scope names f) (arguments_of scope names args)) (call_value p) x e in
+          call_by_free p f args c.value (λ y k. typed_free f y k) (λ y k. behind_free f y k) (λ ys k. arguments_free args ys k) c.right
+      typed_free (Written.Text p bytes) x e = refl
+      typed_free (Written.Names p b n) x e = refl
+
+      behind_free : (w : Written) (x : Operand) → behind_sign scope names w ≡ Right x → use_behind w ≡ None
+      behind_free (Written.Number p n k) x e = refl
+      behind_free (Written.Null p) x e = refl
+      behind_free (Written.Name p other) x e = refl
+      behind_free (Written.Prefix p op a) x e = typed_free a x e
+      behind_free (Written.Post p op a) x e = refl
+      behind_free (Written.Cast p b n a) x e = refl
+      behind_free (Written.Binary p op a b) x e = refl
+      behind_free (Written.Choice p c a b) x e = refl
+      behind_free (Written.Subscript p a i) x e = refl
+      behind_free (Written.Member p a is_arrow at other) x e = refl
+      behind_free (Written.Call p f args) x e = refl
+      behind_free (Written.Text p bytes) x e = refl
+      behind_free (Written.Names p b n) x e = refl
+
+      arguments_free : (ws : Writtens) (ys : List Argument) → arguments_of scope names ws ≡ Right ys → use_among name ws ≡ None
+      arguments_free Writtens.End ys e = refl
+      arguments_free (Writtens.Then w ws) ys e =
+          let b = both_right (argument_by scope w (typed scope names w)) (arguments_of scope names ws) (λ x xs. Right (x ∷ xs)) ys e in
+          neither (use_in name w) (use_among name ws) (argument_free w b.left (λ y k. typed_free w y k) b.first) (arguments_free ws b.right b.second)
 
     call_free : (p : Place) (f : Written) (args : Writtens) (c : TypedCall) → call_at scope names p f args ≡ Right c → or_else (use_in name f) (use_among name args) ≡ None
-    unfolding call_at call_rule
-    call_free p f args c e =
-        let b = both_right (target_of (typed scope names) f) (arguments_of (typed scope names) scope args) (λ t args. call_by scope p args t) c e in
-        neither (use_in name f) (use_among name args) (target_free f b.left b.first) (arguments_free args b.right b.second)
+    unfolding call_at
+    call_free p f args c e = call_by_free p f args c (typed_free f) (behind_free f) (arguments_free args) e
 
     -- ---- what stands behind `=` and `return`
 
@@ -214,7 +286,7 @@ module _ (scope : Scope) (name : List ℕ) (gives : GivesNothing (entity_named s
     source_free (Written.Name p other) s e = typed_source (Written.Name p other) s e
     source_free (Written.Prefix p op a) s e = typed_source (Written.Prefix p op a) s e
     source_free (Written.Post p op a) s e = typed_source (Written.Post p op a) s e
-    source_free (Written.Cast p b n a) s e = typed_source (Written.Cast p b n a) s e
+    source_free (Written.Cast p b n a) s e = let c = after_right (typed scope names (Written.Cast p b n a)) (cast_source (source_of scope names a)) s e in typed_free (Written.Cast p b n a) c.value c.right
     source_free (Written.Binary p op a b) s e = typed_source (Written.Binary p op a b) s e
     source_free (Written.Choice p c a b) s e = typed_source (Written.Choice p c a b) s e
     source_free (Written.Subscript p a i) s e = typed_source (Written.Subscript p a i) s e

@@ -186,8 +186,8 @@ module _ (scope : Scope) (name : List ℕ) (gives : GivesNothing (entity_named s
   initial_free : (names : List LocalName) (p : Place) (slot : ℕ) (t : Bool) (w : Written) (o : Option (List ℕ)) (object : Object) (s : Step) → local_named names name ≡ None → text_of w ≡ o → initial_by profile_rules scope names p slot t w o object ≡ Right s → use_in name w ≡ None
   initial_free names p slot t w (Some bytes) object s f q e = text_free name w bytes q
   initial_free names p slot t w None object s f q e =
-      let c = chosen_right (is_single object) (stored scope names p (own_place (is_own_object t object) slot) object.ty w) p Mismatch s e in
-      stored_free scope name gives plain names f p (own_place (is_own_object t object) slot) object.ty w s c.right
+      let c = chosen_right (is_single object) (stored scope names p (own_place (is_own_object t object) slot object.ty) object.ty w) p Mismatch s e in
+      stored_free scope name gives plain names f p (own_place (is_own_object t object) slot object.ty) object.ty w s c.right
 
   local_free : (here : Here) (t : Bool) (d : Decl) (init : Option Written) (ss : List Stmt) → IsNamed d → IsFree here → local_made profile_rules scope frame here t d init ≡ Right ss → chosen (is_declared_by name d) None (perhaps_use name init) ≡ None
   unfolding local_made initial_step

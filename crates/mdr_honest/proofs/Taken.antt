@@ -7,7 +7,6 @@ use Rattle.mdr_core.specs.declared.program.Func.{Func}
 use Rattle.mdr_core.specs.declared.program.Program.{Program}
 use Rattle.mdr_core.specs.declared.types.Ty.{Ty}
 use Rattle.mdr_core.specs.Sound.{HasFewNumbers, IsObjectSort, IsSound}
-use Rattle.mdr_core.specs.TypeText.{Occurs}
 use Rattle.mdr_core.specs.Types.{sort_of}
 use Rattle.mdr_slice.specs.declared.halves.Halves.{Halves}
 use Rattle.mdr_slice.specs.Halves.{AreHalves}
@@ -15,6 +14,7 @@ use Rattle.mdr_access.specs.Keys.{HasEach}
 use Rattle.mdr_roundtrip.specs.Again.{IsPrintedAsSource}
 use Rattle.mdr_body.specs.Bodies.{body_rule}
 use Rattle.mdr_body.specs.Uses.{first_use}
+use Rattle.mdr_lower.specs.Tables.{Occurs}
 use Rattle.mdr_typing.specs.Profile.{profile_rules}
 use Rattle.mdr_check.specs.Whole.{file_pieces}
 use Rattle.mdr_program.specs.Programs.{program_of, program_right}
@@ -34,12 +34,12 @@ use Rattle.mdr_half_whole.specs.Replies.{RepliesAsTheWhole}
 use Rattle.mdr_half_whole.proofs.Printed.{the_user_text_replies_as_the_whole}
 use Rattle.mdr_cut.specs.Cuts.{IsPlanOf}
 use Rattle.mdr_plan.specs.Texts.{IsPlanText}
-use Rattle.mdr_sound.proofs.Sourced.{ranges_of, sources_sound}
+use Rattle.mdr_sound.proofs.Sourced.{ranges_of, bodies_of, sources_sound}
 use Rattle.mdr_sound_code.proofs.Rights.{after_right, same_right}
 use Rattle.mdr_sound.proofs.Filed.{types_of_files}
 use Rattle.mdr_sound.proofs.Sorts.{not_wrong}
 use Rattle.mdr_sound.proofs.Itemising.{bytes_proper}
-use Rattle.mdr_sound.proofs.Allocating.{profile_formed}
+use Rattle.mdr_sound.proofs.Stating.{profile_sound}
 use Rattle.mdr_source_plans.proofs.Sources.{plans_of_sources_are_read}
 use Rattle.mdr_split.specs.Law.{HaveBodies, IsPlanOf as IsItsPlan}
 use Rattle.mdr_texts.proofs.HalvesAgain.{half_again}
@@ -87,7 +87,7 @@ formed_pointers : (bytes : List ℕ) (source : Source) → IsSource bytes source
 formed_pointers bytes source s =
     let proper = bytes_proper bytes false s.tokens source.tree s.are_tokens s.reads in
     let formed : (t : Ty) → Occurs source.program t → IsObjectSort (sort_of (length source.program.structs) t) =
-    types_of_files source.program profile_rules first_use source.tree.items s.judged (ranges_of source.tree.items proper) (profile_formed source.program) in
+    types_of_files source.program profile_rules first_use source.tree.items s.judged (ranges_of source.tree.items proper) (bodies_of source.tree.items proper) (λ scope known slots. profile_sound source.program slots scope known) in
     record { formed = λ t occurs pointer. record { formed = λ wrong. not_wrong (subst IsObjectSort wrong (formed t occurs)) } }
 
 are_short : (program : Program) → IsSound program → AreShort program

@@ -1,6 +1,6 @@
 // The memory of a run, block by block.
 
-ghost use Rattle.std.specs.Prelude.{◌≡◌, IfOk, Some, map, option_map, slice_get};
+ghost use Rattle.std.specs.Prelude.{◌≡◌, ◌<◌, IfOk, Some, length, map, option_map, slice_get};
 ghost use Rattle.mdr_mem.specs.Contents.{current, wire_in};
 
 use mdr_copy::{RisingBlocks, wire_of};
@@ -50,15 +50,17 @@ fn wires_now(
 
 /// What the cells hold of the block at this place among those that live.
 fn cells_at(blocks: &RegionBlocks, alloc: Global, place: usize) -> Result<Items<Wire>, OutOfMemory>
+    requires { place < length blocks.now.memory }
     ensures { IfOk result (λ ws. option_map (λ b. b.cells) (slice_get blocks.now.memory place) ≡ Some ws) }
 {
     match blocks.cells_at(place) {
         Some(cells) => wires_now(blocks, alloc, cells),
-        None => Err(OutOfMemory::unmet()),
+        None => unreachable!(),
     }
 }
 
 fn block_at(blocks: &RegionBlocks, alloc: Global, place: usize) -> Result<MemoryBlock, OutOfMemory>
+    requires { place < length blocks.now.memory }
     ensures { IfOk result (λ b. slice_get blocks.now.memory place ≡ Some b) }
 {
     match blocks.born_at(place) {
@@ -66,7 +68,7 @@ fn block_at(blocks: &RegionBlocks, alloc: Global, place: usize) -> Result<Memory
             let cells = cells_at(blocks, alloc, place)?;
             Ok(MemoryBlock { born, cells })
         }
-        None => Err(OutOfMemory::unmet()),
+        None => unreachable!(),
     }
 }
 

@@ -1,2 +1,5 @@
-pub mod PlainForms
+pub mod Carried
+pub mod Stepped
 pub mod Typed
+pub mod CallArms
+pub mod Connected

@@ -1,2 +1,3 @@
+pub mod Apart
 pub mod Lowering
-pub mod Plain
+pub mod Tables

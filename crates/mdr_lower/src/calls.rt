@@ -1,61 +1,70 @@
-// Calls, lowered.
+// Calls that are whole statements, lowered.
 
-ghost use Rattle.std.specs.Prelude.{◌≡◌, IfOk, map};
-ghost use Rattle.mdr_lower.specs.Lowering.{lowered_expr, lowered_callee, lowered_call};
+ghost use Rattle.std.specs.Prelude.{◌≡◌, map, IfOk, OnOk};
+ghost use Rattle.mdr_rich.specs.Code.{term_list};
+ghost use Rattle.mdr_rich.specs.Folds.{term_of, called_of};
+ghost use Rattle.mdr_lower.specs.Apart.{parts_lowered};
+ghost use Rattle.mdr_lower.specs.Lowering.{low_callee, call_lowered};
 
-use crate::expressions::lowered_expr;
+use crate::expressions::{low_args, low_part};
+use crate::forms::{copied_format, copied_shape};
+use crate::parts::are_active;
+use crate::release::left_over;
+use crate::work::Work;
 use mdr_core as plain;
-use mdr_core::{Items, Name, Ty};
-use mdr_faults::{copied, copied_type};
-use mdr_rich::{CallForm, Callee, Expr};
+use mdr_core::Items;
+use mdr_rich::{CallForm, Callee};
 use std::alloc::{AllocError, Global};
 
-fn lowered_callee(alloc: Global, callee: &Callee) -> Result<plain::Callee, AllocError>
-    ensures { IfOk result (λ c. c ≡ lowered_callee callee.now) }
+fn low_callee(
+    alloc: Global,
+    number: u32,
+    later: bool,
+    callee: &Callee,
+    work: &mut Work,
+) -> Result<plain::Callee, AllocError>
+    ensures told { IfOk result (λ c. c ≡ (low_callee number later (called_of callee.now) work.old).1) }
+    ensures grown { OnOk result (work.new ≡ (low_callee number later (called_of callee.now) work.old).0) }
 {
     match callee {
         Callee::Direct(f) => Ok(plain::Callee::Direct(*f)),
-        Callee::Through(e) => Ok(plain::Callee::Through(lowered_expr(alloc, e)?)),
-        Callee::Service(number) => Ok(plain::Callee::Service(*number)),
+        Callee::Through(e) => {
+            Ok(plain::Callee::Through(low_part(alloc, number, e, later, work)?))
+        }
+        Callee::Service(service) => Ok(plain::Callee::Service(*service)),
     }
 }
 
-fn lowered_args(alloc: Global, args: &[Expr]) -> Result<Items<plain::Expr>, AllocError>
-    ensures { IfOk result (λ es. es ≡ map lowered_expr args.now) }
+fn low_parts(
+    alloc: Global,
+    number: u32,
+    form: &CallForm,
+    work: &mut Work,
+) -> Result<(plain::Callee, Items<plain::Expr>), AllocError>
+    ensures told { IfOk result (λ p. p ≡ (parts_lowered number (called_of form.now.callee) (term_list (map term_of form.now.args)) work.old).1) }
+    ensures grown { OnOk result (work.new ≡ (parts_lowered number (called_of form.now.callee) (term_list (map term_of form.now.args)) work.old).0) }
 {
-    let mut all = Items::new(alloc);
-    for e in args {
-        all.push(lowered_expr(alloc, e)?)?;
-    }
-    Ok(all)
-}
-
-fn copied_shape(alloc: Global, shape: &Option<Ty>) -> Result<Option<Ty>, AllocError>
-    ensures { IfOk result (λ t. t ≡ shape.now) }
-{
-    match shape {
-        None => Ok(None),
-        Some(ty) => Ok(Some(copied_type(alloc, ty)?)),
-    }
-}
-
-fn copied_format(alloc: Global, format: &Option<Name>) -> Result<Option<Name>, AllocError>
-    ensures { IfOk result (λ text. text ≡ format.now) }
-{
-    match format {
-        None => Ok(None),
-        Some(text) => Ok(Some(copied(alloc, text.as_slice())?)),
+    let later = are_active(form.args.as_slice());
+    let callee = low_callee(alloc, number, later, &form.callee, work)?;
+    match low_args(alloc, number, form.args.as_slice(), work) {
+        Ok(args) => Ok((callee, args)),
+        Err(error) => left_over(error, callee),
     }
 }
 
 /// A call.
-pub fn lowered_call(alloc: Global, form: &CallForm) -> Result<plain::CallForm, AllocError>
-    ensures { IfOk result (λ c. c ≡ lowered_call form.now) }
+pub fn lowered_call(
+    alloc: Global,
+    number: u32,
+    form: &CallForm,
+    work: &mut Work,
+) -> Result<plain::CallForm, AllocError>
+    ensures told { IfOk result (λ c. c ≡ (call_lowered number form.now work.old).1) }
+    ensures grown { OnOk result (work.new ≡ (call_lowered number form.now work.old).0) }
 {
-    let args = lowered_args(alloc, form.args.as_slice())?;
     let shape = copied_shape(alloc, &form.shape)?;
     let format = copied_format(alloc, &form.format)?;
-    let callee = lowered_callee(alloc, &form.callee)?;
+    let (callee, args) = low_parts(alloc, number, form, work)?;
     Ok(plain::CallForm {
         callee,
         args,

@@ -2,8 +2,15 @@
 #![tactic(auto)]
 
 mod calls;
+mod copies;
 mod expressions;
+mod forms;
+mod parts;
 mod release;
 mod statements;
+mod stepping;
+mod types;
+mod work;
 
 pub use statements::lowered;
+pub use work::Work;

@@ -10,3 +10,6 @@ pub fn left_over<A: Drop, B: Drop>(error: AllocError, _lowered: A) -> Result<B, 
 {
     Err(error)
 }
+
+/// Nothing more is done with it.
+pub fn let_go<A: Drop>(_lowered: A) {}

@@ -1,6 +1,6 @@
 // The kernel half.
 
-ghost use Rattle.std.specs.Prelude.{◌≡◌, ◌≤◌, [], ◌++◌, true, false, IfOk, OnErr};
+ghost use Rattle.std.specs.Prelude.{◌≡◌, ◌≤◌, [], ◌++◌, true, false, IfOk, OnErr, length};
 ghost use Rattle.mdr_core.specs.Sound.{IsSound};
 ghost use Rattle.mdr_exchanges.specs.Calls.{IsStopped, sends};
 ghost use Rattle.mdr_exchanges.specs.Ends.{AreFew, IsAsBefore};
@@ -16,7 +16,7 @@ use mdr_core::{OutOfMemory, Plan, Program};
 use mdr_model::MemoryBlock;
 use mdr_outside::Far;
 use mdr_plain::Outcome;
-use mdr_watch::{Watch, is_fit};
+use mdr_watch::Watch;
 use std::alloc::Global;
 use std::marker::Model;
 
@@ -50,27 +50,20 @@ impl<'a> Model for KernelHalf<'a> {
 }
 
 impl<'a> KernelHalf<'a> {
-    /// A half that had no run, and holds no memory yet. A plan that hasn't a half for each function answers want of
-    /// memory.
-    pub fn new(
-        alloc: Global,
-        program: &'a Program,
-        plan: &'a Plan,
-    ) -> Result<KernelHalf<'a>, OutOfMemory>
-        requires { IsSound program.now }
-        ensures { IfOk result (λ h. h ≡ record { program = program.now; plan = plan.now; is_fresh = true; memory = []; messages = 0; layout = (0, 0) }) }
+    /// A half that had no run, and holds no memory yet. It takes no memory.
+    pub fn new(alloc: Global, program: &'a Program, plan: &'a Plan) -> KernelHalf<'a>
+        requires sound { IsSound program.now }
+        requires fit { length plan.now.halves ≡ length program.now.funcs }
+        ensures { result ≡ record { program = program.now; plan = plan.now; is_fresh = true; memory = []; messages = 0; layout = (0, 0) } }
     {
-        if !is_fit(Watch { program, plan }) {
-            return Err(OutOfMemory::unmet());
-        }
-        Ok(KernelHalf {
+        KernelHalf {
             program,
             plan,
             is_fresh: true,
             memory: Vec::new(alloc),
             messages: 0,
             layout: (0, 0),
-        })
+        }
     }
 
     /// Runs a script under a budget of ticks over a far side that was loaded and got no message since. After

@@ -11,10 +11,14 @@ use Rattle.mdr_core.specs.declared.kind.Kind.TheVariants.{S32}
 use Rattle.mdr_core.specs.declared.place.Place.{Place}
 use Rattle.mdr_core.specs.declared.types.Ty.{Ty, out-Ty}
 use Rattle.mdr_core.specs.declared.types.Ty.TheOpen.{Ty-F}
+use Rattle.mdr_core.specs.declared.types.Ty.TheVariants as type
 use Rattle.mdr_core.specs.declared.value.Value.TheVariants as value
 use Rattle.mdr_core.specs.Conversions.{promoted}
 use Rattle.mdr_core.specs.Kinds.{is_same_kind}
 use Rattle.mdr_core.specs.Layout.{chosen}
+use Rattle.mdr_core.specs.Types.{is_scalar}
+use Rattle.mdr_rich.specs.Activity.{is_active, is_active_place}
+use Rattle.mdr_rich.specs.Folds.{term_of, lvalue_of}
 use Rattle.mdr_faults.specs.declared.fault.FaultKind.TheVariants.{Mismatch, NotAnLvalue}
 use Rattle.mdr_operand.specs.declared.operand.Integer.{Integer}
 use Rattle.mdr_operand.specs.declared.operand.Operand.{Operand}
@@ -67,6 +71,35 @@ needed p (Some x) = Right x
 -- an operand of the form at place p has a scalar type
 unfoldable pub scalar_at : Place → Operand → Checked Scalar
 scalar_at p x = needed p (value_of x)
+
+-- a value of the type, which is no lvalue, at place p
+unfoldable pub value_at : Place → Ty → Expr → Checked Operand
+value_at p t e = after (needed p (scalar_of e t)) (λ v. Right (operand.Value v))
+
+-- the type of a value
+abbrev pub scalar_type : Scalar → Ty
+scalar_type (scalar.Number e k) = type.Int k
+scalar_type (scalar.Pointer e t) = type.Ptr t
+scalar_type (scalar.Opaque e) = type.VoidPtr
+scalar_type (scalar.Handle e ts) = type.Fun ts
+
+-- the type of an operand's value
+abbrev pub value_type : Operand → Option Ty
+value_type (operand.Value v) = Some (scalar_type v)
+value_type (operand.Zero k) = Some (type.Int k)
+value_type operand.Null = Some type.VoidPtr
+value_type (operand.Object l t) = chosen (is_scalar t) (Some t) None
+value_type (operand.Array l t n) = Some (type.Ptr t)
+value_type (operand.Function f ts) = Some (type.Fun ts)
+
+-- a call, `++`, `--` or `?:` stands in the operand
+abbrev pub is_active_operand : Operand → Bool
+is_active_operand (operand.Value v) = is_active (term_of (expression_of v))
+is_active_operand (operand.Zero k) = false
+is_active_operand operand.Null = false
+is_active_operand (operand.Object l t) = is_active_place (lvalue_of l)
+is_active_operand (operand.Array l t n) = is_active_place (lvalue_of l)
+is_active_operand (operand.Function f ts) = false
 
 abbrev pub integer_by : Scalar → Option Integer
 integer_by (scalar.Number e k) = Some (record { value = e; kind = k })
@@ -156,11 +189,11 @@ flipped_number n = number (expr.Flip (promoted n.kind) (at_kind (promoted n.kind
 
 -- `&*p` is p and `&a[i]` is a + i: what they name isn't evaluated (paragraph 3)
 abbrev pub address_by : Lval-F Expr Lval → Expr
-address_by (Lval-F.Slot i) = expr.Addr (lval.Slot i)
-address_by (Lval-F.Object i) = expr.Addr (lval.Object i)
-address_by (Lval-F.Global g) = expr.Addr (lval.Global g)
+address_by (Lval-F.Slot i t) = expr.Addr (lval.Slot i t)
+address_by (Lval-F.Object i t) = expr.Addr (lval.Object i t)
+address_by (Lval-F.Global g t) = expr.Addr (lval.Global g t)
 address_by (Lval-F.Deref e) = e
-address_by (Lval-F.Member l f) = expr.Addr (lval.Member l f)
+address_by (Lval-F.Member l f t) = expr.Addr (lval.Member l f t)
 address_by (Lval-F.Index l e) = expr.Move false (expr.Decay l) e
 
 unfoldable pub address_of : Lval → Expr
@@ -208,7 +241,7 @@ prefix_of p x prefix.Not = not_at p x
 prefix_of p x prefix.Address = address p x
 prefix_of p x prefix.Target = target_at p x
 
--- `++` and `--` aren't built as parts of expressions
+-- no other operator stands in front of an operand
 abbrev pub prefix_by : Place → Option PrefixOperator → Operand → Checked Operand
 prefix_by p None x = refuse p Mismatch
 prefix_by p (Some op) x = prefix_of p x op

@@ -31,11 +31,11 @@ fn address_of(alloc: Global, l: Lval) -> Result<Expr, AllocError>
     ensures { IfOk result (λ e. e ≡ address_of l) }
 {
     match l {
-        Lval::Slot(i) => Ok(Expr::Addr(Lval::Slot(i))),
-        Lval::Object(i) => Ok(Expr::Addr(Lval::Object(i))),
-        Lval::Global(g) => Ok(Expr::Addr(Lval::Global(g))),
+        Lval::Slot(i, ty) => Ok(Expr::Addr(Lval::Slot(i, ty))),
+        Lval::Object(i, ty) => Ok(Expr::Addr(Lval::Object(i, ty))),
+        Lval::Global(g, ty) => Ok(Expr::Addr(Lval::Global(g, ty))),
         Lval::Deref(e) => Ok(e.into_inner()),
-        Lval::Member(l, f) => Ok(Expr::Addr(Lval::Member(l, f))),
+        Lval::Member(l, f, ty) => Ok(Expr::Addr(Lval::Member(l, f, ty))),
         Lval::Index(l, e) => element_address(alloc, l, e),
     }
 }

@@ -17,7 +17,7 @@ pub use casts::cast;
 pub use conversion::{cast_as, converted_at, null_as, operand_as, scalar_as};
 pub use operand::{
     Integer, Operand, Pointer, Scalar, at_kind, condition_at, expression_of, integer_at, literal,
-    needed, number, pointer_at, scalar_at, scalar_of, truth, value_of,
+    needed, number, pointer_at, scalar_at, scalar_of, truth, value_at, value_of, value_where,
 };
 pub use operator::{
     AssignmentOperator, BinaryOperator, PrefixOperator, assignment_operator, binary_operator,
@@ -26,4 +26,4 @@ pub use operator::{
 pub use prefixes::prefix;
 pub use release::{both_given_up, given_up, out_of_memory};
 pub use room::{LocalName, local_named};
-pub use sort::{is_complete, is_null, is_number};
+pub use sort::{is_active_operand, is_complete, is_null, is_number, value_type};

@@ -2,10 +2,11 @@
 
 ghost use Rattle.std.specs.Prelude.{◌≡◌, IfOk, pos};
 ghost use Rattle.std.specs.Option.{option_map};
+ghost use Rattle.mdr_rich.specs.declared.code.Expr.{Expr};
 ghost use Rattle.mdr_faults.specs.Faults.{told};
-ghost use Rattle.mdr_operand.specs.Forms.{scalar_of, value_of, expression_of, needed, scalar_at, integer_by, integer_at, at_kind, number, truth, literal, condition_at, pointer_by, pointer_at};
+ghost use Rattle.mdr_operand.specs.Forms.{scalar_of, value_of, expression_of, needed, value_at, scalar_at, integer_by, integer_at, at_kind, number, truth, literal, condition_at, pointer_by, pointer_at};
 
-use crate::release::nothing;
+use crate::release::{nothing, out_of_memory};
 use mdr_core::{Boxed, Items, Kind, Place, Ty, Value};
 use mdr_faults::{Fault, FaultKind};
 use mdr_rich::{Expr, Lval};
@@ -104,6 +105,31 @@ pub fn needed<A: Drop>(place: Place, x: Option<A>) -> Result<A, Fault>
             kind: FaultKind::Mismatch,
         }),
         Some(x) => Ok(x),
+    }
+}
+
+/// A value of this type, which is no lvalue, of the form at this place.
+#[tactic(auto, unfolding(crate::specs::Forms::value_at))]
+pub fn value_at(place: Place, ty: Ty, value: Expr) -> Result<Operand, Fault>
+    ensures { result ≡ told (value_at place ty value) }
+{
+    match needed(place, scalar_of(value, ty)) {
+        Ok(v) => Ok(Operand::Value(v)),
+        Err(fault) => Err(fault),
+    }
+}
+
+/// The same, where there is memory for it.
+pub fn value_where(
+    place: Place,
+    ty: Ty,
+    value: Result<Expr, AllocError>,
+) -> Result<Result<Operand, Fault>, AllocError>
+    ensures { (e : Expr) → IfOk value (λ x. x ≡ e) → IfOk result (λ r. r ≡ told (value_at place ty e)) }
+{
+    match value {
+        Ok(value) => Ok(value_at(place, ty, value)),
+        Err(error) => out_of_memory(error, ty),
     }
 }
 

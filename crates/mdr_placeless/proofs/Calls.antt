@@ -1,34 +1,30 @@
 -- The rules of calls look at no place.
 use Rattle.mdr_call.specs.Arguments.{argument_as, argument_for, arguments_from, converted, first_off}
-use Rattle.mdr_call.specs.Calls.{argument_of, arguments_of, as_target, call_by, call_rule, callee_behind, is_handle, is_star, named_target, starred_callee, target_of, valued}
+use Rattle.mdr_call.specs.Calls.{argument_by, as_target, call_by, call_rule, call_value, callee_behind, is_handle, is_star, named_target, starred_callee, target_by, valued}
 use Rattle.mdr_call.specs.Functions.{call_with, callable, function_call}
 use Rattle.mdr_call.specs.Services.{called_back, counted, counted_by, handle_argument, kcall, kcall_by, kcall_of, kcalloc, kzalloc, printed_by, printed_first, printed_with, printk, request_irq, service_named, text_argument, type_argument}
 use Rattle.mdr_call.specs.declared.parts.Argument.{Argument}
 use Rattle.mdr_call.specs.declared.parts.Callable.{Callable}
 use Rattle.mdr_call.specs.declared.parts.Handle.{Handle}
 use Rattle.mdr_call.specs.declared.parts.Target.{Target}
+use Rattle.mdr_call.specs.declared.parts.TypedCall.{TypedCall}
 use Rattle.mdr_call.specs.declared.service.PlainService.{PlainService}
 use Rattle.mdr_core.specs.declared.place.Place.{Place}
 use Rattle.mdr_faults.specs.Faults.{Checked}
 use Rattle.mdr_faults.specs.declared.scope.Scope.{Scope}
 use Rattle.mdr_operand.specs.Signs.{prefix_operator}
-use Rattle.mdr_operand.specs.Written.{Written, Writtens}
+use Rattle.mdr_operand.specs.Written.{Written}
 use Rattle.mdr_operand.specs.declared.operand.Operand.{Operand}
 use Rattle.mdr_operand.specs.declared.operator.PrefixOperator.{PrefixOperator}
-use Rattle.mdr_operand.specs.declared.room.LocalName.{LocalName}
 use Rattle.mdr_placeless.proofs.Combined.{after_alike, both_alike, chosen_alike, needed_alike, next_alike}
 use Rattle.mdr_placeless.proofs.Constants.{types_named}
 use Rattle.mdr_placeless.proofs.Declared.{cells_alike}
-use Rattle.mdr_placeless.proofs.Expressions.{expressions}
-use Rattle.mdr_placeless.proofs.Operands.{conversions, prefix_rules, scalars}
-use Rattle.mdr_placeless.proofs.Postfixes.{AreLocalNames}
-use Rattle.mdr_placeless.proofs.Scopes.{AreScopes, Pairs}
-use Rattle.mdr_placeless.proofs.Written.{AreWritten, AreWrittens}
+use Rattle.mdr_placeless.proofs.Operands.{conversions, prefix_rules, scalars, values_at}
+use Rattle.mdr_placeless.proofs.Scopes.{AreScopes}
+use Rattle.mdr_placeless.proofs.Written.{AreWritten}
 use Rattle.mdr_placeless.proofs.Written.AreWritten.{Binaries, Calls, Casts, Choices, Members, Names, Nulls, Numbers, Posts, Prefixes, Subscripts, Texts, Types}
-use Rattle.mdr_placeless.proofs.Written.AreWrittens.{Ends, Thens}
 use Rattle.mdr_placeless.specs.Alike.{AreAlike}
 use Rattle.mdr_placeless.specs.Alike.AreAlike.{Rights, Wrongs}
-use Rattle.mdr_typing.specs.Calling.{call_at}
 use Rattle.std.proofs.Common.{List, None, Option, Some, [], length, map, slice_get, ℕ, ◌+◌, ◌==◌, ◌∷◌}
 use Rattle.mdr_call.specs.Services.{printed, plain_service, allocation_of, service_call, requested, handler}
 use Rattle.mdr_call.specs.declared.parts.Argument.TheVariants as argument
@@ -40,7 +36,6 @@ use Rattle.mdr_core.specs.declared.kind.Kind.TheVariants.{U64}
 use Rattle.mdr_core.specs.declared.kind.Kind.{Kind}
 use Rattle.mdr_core.specs.declared.types.Ty.TheVariants as type
 use Rattle.mdr_core.specs.declared.types.Ty.{Ty}
-use Rattle.mdr_express.specs.Expressions.{typed}
 use Rattle.mdr_operand.specs.declared.operator.PrefixOperator.TheVariants as prefix
 
 -- ---- arguments as values
@@ -161,7 +156,7 @@ module _ {s t : Scope} (a : AreScopes s t) (p q : Place) where
   calls_by xs (target.Service x) = services xs x
   calls_by xs (target.Callee x) = function_calls p q xs x
 
-  call_rules : {c c' : Checked Target} {d d' : Checked (List Argument)} → AreAlike c c' → AreAlike d d' → AreAlike (call_rule s p c d) (call_rule t q c' d')
+  pub call_rules : {c c' : Checked Target} {d d' : Checked (List Argument)} → AreAlike c c' → AreAlike d d' → AreAlike (call_rule s p c d) (call_rule t q c' d')
   unfolding call_rule
   call_rules h k = both_alike h k (λ x xs. calls_by xs x)
 
@@ -175,9 +170,9 @@ starred_callees : (p q : Place) (x : Operand) → AreAlike (starred_callee p x) 
 unfolding starred_callee
 starred_callees p q x = chosen_alike (is_handle x) (values p q x) (prefix_rules p q (Some prefix.Target) (Rights x))
 
-callees_behind : (p q : Place) (op : Option PrefixOperator) {c d : Checked Operand} → AreAlike c d → AreAlike (callee_behind p op c) (callee_behind q op d)
+callees_behind : (p q : Place) (op : Option PrefixOperator) {c d c' d' : Checked Operand} → AreAlike c d → AreAlike c' d' → AreAlike (callee_behind p op c c') (callee_behind q op d d')
 unfolding callee_behind
-callees_behind p q op h = chosen_alike (is_star op) (after_alike h (starred_callees p q)) (prefix_rules p q op h)
+callees_behind p q op h k = chosen_alike (is_star op) (after_alike k (starred_callees p q)) h
 
 as_targets : {c d : Checked Operand} → AreAlike c d → AreAlike (as_target c) (as_target d)
 as_targets h = after_alike h (λ x. Rights _)
@@ -186,43 +181,40 @@ named_targets : (o : Option Service) {c d : Checked Operand} → AreAlike c d �
 named_targets None h = as_targets h
 named_targets (Some x) h = Rights _
 
--- ---- calls as they are written
+pub targets_by : {v w : Written} {c d c' d' : Checked Operand} → AreWritten v w → AreAlike c d → AreAlike c' d' → AreAlike (target_by v c c') (target_by w d d')
+targets_by (Numbers p q n k) h l = as_targets h
+targets_by (Nulls p q) h l = as_targets h
+targets_by (Names p q name) h l = named_targets (service_named name) h
+targets_by (Prefixes p q op r) h l = as_targets (callees_behind p q (prefix_operator op) h l)
+targets_by (Posts p q op r) h l = as_targets h
+targets_by (Casts p q n bs r) h l = as_targets h
+targets_by (Binaries p q op r k) h l = as_targets h
+targets_by (Choices p q r k m) h l = as_targets h
+targets_by (Subscripts p q r k) h l = as_targets h
+targets_by (Members p q at there is_arrow name r) h l = as_targets h
+targets_by (Calls p q r rs) h l = as_targets h
+targets_by (Texts p q bytes) h l = as_targets h
+targets_by (Types p q n bs) h l = as_targets h
 
-module _ {s t : Scope} {ns ms : List LocalName} (a : AreScopes s t) (h : Pairs AreLocalNames ns ms) where
-  targets_of : {v w : Written} → AreWritten v w → AreAlike (target_of (typed s ns) v) (target_of (typed t ms) w)
-  targets_of (Numbers p q n k) = as_targets (expressions a h (Numbers p q n k))
-  targets_of (Nulls p q) = as_targets (expressions a h (Nulls p q))
-  targets_of (Names p q name) = named_targets (service_named name) (expressions a h (Names p q name))
-  targets_of (Prefixes p q op r) = as_targets (callees_behind p q (prefix_operator op) (expressions a h r))
-  targets_of (Posts p q op r) = as_targets (expressions a h (Posts p q op r))
-  targets_of (Casts p q n bs r) = as_targets (expressions a h (Casts p q n bs r))
-  targets_of (Binaries p q op r k) = as_targets (expressions a h (Binaries p q op r k))
-  targets_of (Choices p q r k l) = as_targets (expressions a h (Choices p q r k l))
-  targets_of (Subscripts p q r k) = as_targets (expressions a h (Subscripts p q r k))
-  targets_of (Members p q at there is_arrow name r) = as_targets (expressions a h (Members p q at there is_arrow name r))
-  targets_of (Calls p q r rs) = as_targets (expressions a h (Calls p q r rs))
-  targets_of (Texts p q bytes) = as_targets (expressions a h (Texts p q bytes))
-  targets_of (Types p q n bs) = as_targets (expressions a h (Types p q n bs))
+-- ---- arguments as they are written
 
-  arguments : {v w : Written} → AreWritten v w → AreAlike (argument_of (typed s ns) s v) (argument_of (typed t ms) t w)
-  arguments (Numbers p q n k) = after_alike (expressions a h (Numbers p q n k)) (λ x. Rights (argument.Value x))
-  arguments (Nulls p q) = after_alike (expressions a h (Nulls p q)) (λ x. Rights (argument.Value x))
-  arguments (Names p q name) = after_alike (expressions a h (Names p q name)) (λ x. Rights (argument.Value x))
-  arguments (Prefixes p q op r) = after_alike (expressions a h (Prefixes p q op r)) (λ x. Rights (argument.Value x))
-  arguments (Posts p q op r) = after_alike (expressions a h (Posts p q op r)) (λ x. Rights (argument.Value x))
-  arguments (Casts p q n bs r) = after_alike (expressions a h (Casts p q n bs r)) (λ x. Rights (argument.Value x))
-  arguments (Binaries p q op r k) = after_alike (expressions a h (Binaries p q op r k)) (λ x. Rights (argument.Value x))
-  arguments (Choices p q r k l) = after_alike (expressions a h (Choices p q r k l)) (λ x. Rights (argument.Value x))
-  arguments (Subscripts p q r k) = after_alike (expressions a h (Subscripts p q r k)) (λ x. Rights (argument.Value x))
-  arguments (Members p q at there is_arrow name r) = after_alike (expressions a h (Members p q at there is_arrow name r)) (λ x. Rights (argument.Value x))
-  arguments (Calls p q r rs) = after_alike (expressions a h (Calls p q r rs)) (λ x. Rights (argument.Value x))
-  arguments (Texts p q bytes) = Rights _
-  arguments (Types p q n bs) = after_alike (types_named a bs n) (λ u. Rights _)
+pub arguments_by : {s t : Scope} → AreScopes s t → {v w : Written} {c d : Checked Operand} → AreWritten v w → AreAlike c d → AreAlike (argument_by s v c) (argument_by t w d)
+arguments_by a (Numbers p q n k) h = after_alike h (λ x. Rights (argument.Value x))
+arguments_by a (Nulls p q) h = after_alike h (λ x. Rights (argument.Value x))
+arguments_by a (Names p q name) h = after_alike h (λ x. Rights (argument.Value x))
+arguments_by a (Prefixes p q op r) h = after_alike h (λ x. Rights (argument.Value x))
+arguments_by a (Posts p q op r) h = after_alike h (λ x. Rights (argument.Value x))
+arguments_by a (Casts p q n bs r) h = after_alike h (λ x. Rights (argument.Value x))
+arguments_by a (Binaries p q op r k) h = after_alike h (λ x. Rights (argument.Value x))
+arguments_by a (Choices p q r k m) h = after_alike h (λ x. Rights (argument.Value x))
+arguments_by a (Subscripts p q r k) h = after_alike h (λ x. Rights (argument.Value x))
+arguments_by a (Members p q at there is_arrow name r) h = after_alike h (λ x. Rights (argument.Value x))
+arguments_by a (Calls p q r rs) h = after_alike h (λ x. Rights (argument.Value x))
+arguments_by a (Texts p q bytes) h = Rights _
+arguments_by a (Types p q n bs) h = after_alike (types_named a bs n) (λ u. Rights _)
 
-  all_arguments : {vs ws : Writtens} → AreWrittens vs ws → AreAlike (arguments_of (typed s ns) s vs) (arguments_of (typed t ms) t ws)
-  all_arguments Ends = Rights _
-  all_arguments (Thens r rs) = next_alike (arguments r) (all_arguments rs)
+-- ---- calls as values
 
-  pub calls : (p q : Place) {v w : Written} {vs ws : Writtens} → AreWritten v w → AreWrittens vs ws → AreAlike (call_at s ns p v vs) (call_at t ms q w ws)
-  unfolding call_at
-  calls p q r rs = call_rules a p q (targets_of r) (all_arguments rs)
+pub call_values : (p q : Place) (c : TypedCall) → AreAlike (call_value p c) (call_value q c)
+unfolding call_value
+call_values p q c = values_at p q c.result _

@@ -43,7 +43,7 @@ use Rattle.mdr_syntax.specs.declared.tree.Head.{Head}
 use Rattle.mdr_syntax.specs.declared.tree.Item.{Item}
 use Rattle.mdr_syntax.specs.declared.tree.ItemWhat.{ItemWhat}
 use Rattle.mdr_typing.specs.Profile.{profile_rules}
-use Rattle.std.proofs.Common.{Bool, List, Option, Result, [], ap, bytes_eq, false, length, map, not, refl, subst, true, ℕ, ◌&&◌, ◌++◌, ◌+◌, ◌==◌, ◌||◌, ◌∙◌, ◌∷◌, ◌≡◌}
+use Rattle.std.proofs.Common.{Bool, List, Option, Result, [], ap, bytes_eq, false, length, map, not, refl, subst, true, ℕ, ◌&&◌, ◌++◌, ◌+◌, ◌==◌, ◌∙◌, ◌∷◌, ◌≡◌}
 use Rattle.mdr_body.specs.Uses.{first_use}
 use Rattle.mdr_check.specs.Files.{BodyRule, behind_head, body_scope}
 use Rattle.mdr_check.specs.Globals.{variable_of, variable, global, behind_global, first_value, global_means}

@@ -6,8 +6,10 @@ pub mod Binaries
 pub mod Constants
 pub mod Declared
 pub mod Written
-pub mod Expressions
+pub mod Chosen
+pub mod Assigning
 pub mod Calls
+pub mod Expressions
 pub mod Steps
 pub mod Annotated
 pub mod Headings

@@ -2,12 +2,13 @@
 use Rattle.std.proofs.Common.{Option, Some, None}
 use Rattle.mdr_core.specs.declared.place.Place.{Place}
 use Rattle.mdr_core.specs.declared.types.Ty.{Ty}
+use Rattle.mdr_rich.specs.declared.code.Expr.{Expr}
 use Rattle.mdr_operand.specs.declared.operand.Operand.{Operand}
 use Rattle.mdr_operand.specs.declared.operand.Operand.TheVariants as operand
 use Rattle.mdr_operand.specs.declared.operator.PrefixOperator.{PrefixOperator}
 use Rattle.mdr_operand.specs.declared.operator.PrefixOperator.TheVariants as prefix
 use Rattle.mdr_faults.specs.Faults.{Checked}
-use Rattle.mdr_operand.specs.Forms.{scalar_at, integer_at, integer_by, value_of, condition_at, pointer_by, pointer_at, address, promotion_at, negation_at, flip_at, not_at, target_at, prefix_of, prefix_by, prefix_rule}
+use Rattle.mdr_operand.specs.Forms.{scalar_at, scalar_of, value_at, integer_at, integer_by, value_of, condition_at, pointer_by, pointer_at, address, promotion_at, negation_at, flip_at, not_at, target_at, prefix_of, prefix_by, prefix_rule}
 use Rattle.mdr_operand.specs.Converting.{cast_as, value_of_type, cast_to, operand_as, converted_at}
 use Rattle.mdr_placeless.specs.Alike.{AreAlike}
 use Rattle.mdr_placeless.specs.Alike.AreAlike.{Rights, Wrongs}
@@ -16,6 +17,10 @@ use Rattle.mdr_placeless.proofs.Combined.{after_alike, needed_alike}
 pub scalars : (p q : Place) (x : Operand) → AreAlike (scalar_at p x) (scalar_at q x)
 unfolding scalar_at
 scalars p q x = needed_alike p q (value_of x)
+
+pub values_at : (p q : Place) (t : Ty) (e : Expr) → AreAlike (value_at p t e) (value_at q t e)
+unfolding value_at
+values_at p q t e = after_alike (needed_alike p q (scalar_of e t)) (λ v. Rights _)
 
 pub integers : (p q : Place) (x : Operand) → AreAlike (integer_at p x) (integer_at q x)
 unfolding integer_at

@@ -71,12 +71,12 @@ unfolding file_name
 file_names p q Nones = Wrongs _ _
 file_names p q (Somes r) = after_alike (again_alike r.mean) (λ e. Rights _)
 
-local_place : {n m : LocalName} → AreLocalNames n m → place_of_local n ≡ place_of_local m
-local_place {n = n} {m = m} r = ap (λ i. chosen n.is_object (lval.Object i) (lval.Slot i)) r.at_slot ∙ ap (λ b. chosen b (lval.Object m.slot) (lval.Slot m.slot)) r.apart
+local_place : {n m : LocalName} → AreLocalNames n m → (t : Ty) → place_of_local n t ≡ place_of_local m t
+local_place {n = n} {m = m} r t = ap (λ i. chosen n.is_object (lval.Object i t) (lval.Slot i t)) r.at_slot ∙ ap (λ b. chosen b (lval.Object m.slot t) (lval.Slot m.slot t)) r.apart
 
 locals_alike : {n m : LocalName} → AreLocalNames n m → AreAlike (local_operand n) (local_operand m)
 unfolding local_operand
-locals_alike r = after_alike (again_alike r.mean) (λ o. rights_by (ap (λ (l : Lval). object_operand l o) (local_place r)))
+locals_alike r = after_alike (again_alike r.mean) (λ o. rights_by (ap (λ (l : Lval). object_operand l o) (local_place r o.ty)))
 
 locals_or : {n m : Option LocalName} {c d : Checked Operand} → Perhaps AreLocalNames n m → AreAlike c d → AreAlike (local_or n c) (local_or m d)
 locals_or Nones h = h

@@ -97,7 +97,7 @@ text_both (Texts p q bytes) = refl
 text_both (Types p q n bs) = refl
 
 initials_by : {s t : Scope} → AreScopes s t → {ns ms : List LocalName} → Pairs AreLocalNames ns ms → (p q : Place) (slot : ℕ) (b : Bool) {v w : Written} → AreWritten v w → (x : Option (List ℕ)) (o : Object) → AreAlike (initial_by profile_rules s ns p slot b v x o) (initial_by profile_rules t ms q slot b w x o)
-initials_by a h p q slot b z None o = chosen_alike (is_single o) (stores a h p q (own_place (is_own_object b o) slot) o.ty z) (Wrongs _ _)
+initials_by a h p q slot b z None o = chosen_alike (is_single o) (stores a h p q (own_place (is_own_object b o) slot o.ty) o.ty z) (Wrongs _ _)
 initials_by a h p q slot b z (Some bytes) o = chosen_alike (takes_text o (length bytes)) (Rights _) (Wrongs _ _)
 
 jumps : (p q : Place) (in_loop : Bool) (x : Step) → AreAlike (jumped p in_loop x) (jumped q in_loop x)

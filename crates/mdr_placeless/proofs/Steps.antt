@@ -1,20 +1,19 @@
 -- The rules of assignments, of calls that stand alone and of returns look at no place.
-use Rattle.mdr_assign.specs.Assignments.{assigned_at, assigned_by, assignment_rule, compound_at, destination_at, old_value, plain_at, scalar_object, step_operator, step_rule, stepped_at, stepped_by}
-use Rattle.mdr_assign.specs.declared.assignment.Destination.{Destination}
+use Rattle.mdr_assign.specs.Assignments.{step_operator}
 use Rattle.mdr_call.specs.declared.parts.TypedCall.{TypedCall}
-use Rattle.mdr_core.specs.Types.{is_scalar}
 use Rattle.mdr_core.specs.declared.place.Place.{Place}
 use Rattle.mdr_faults.specs.Declarations.{is_void}
 use Rattle.mdr_faults.specs.Faults.{Checked}
 use Rattle.mdr_faults.specs.declared.scope.Scope.{Scope}
+use Rattle.mdr_operand.specs.Forms.{is_active_operand}
 use Rattle.mdr_operand.specs.Signs.{assignment_operator}
 use Rattle.mdr_operand.specs.Written.{Written}
 use Rattle.mdr_operand.specs.declared.operand.Operand.{Operand}
 use Rattle.mdr_operand.specs.declared.room.LocalName.{LocalName}
-use Rattle.mdr_placeless.proofs.Binaries.{calculation_rules}
-use Rattle.mdr_placeless.proofs.Calls.{calls}
+use Rattle.mdr_placeless.proofs.Assigning.{assignment_rules, destinations, step_rules}
+use Rattle.mdr_placeless.proofs.Calls.{call_values}
 use Rattle.mdr_placeless.proofs.Combined.{after_alike, both_alike, chosen_alike}
-use Rattle.mdr_placeless.proofs.Expressions.{expressions}
+use Rattle.mdr_placeless.proofs.Expressions.{calls, expressions}
 use Rattle.mdr_placeless.proofs.Operands.{conversions}
 use Rattle.mdr_placeless.proofs.Postfixes.{AreLocalNames}
 use Rattle.mdr_placeless.proofs.Scopes.{AreScopes, Pairs}
@@ -23,40 +22,19 @@ use Rattle.mdr_placeless.proofs.Written.AreWritten.{Binaries, Calls, Casts, Choi
 use Rattle.mdr_placeless.specs.Alike.{AreAlike}
 use Rattle.mdr_placeless.specs.Alike.AreAlike.{Rights, Wrongs}
 use Rattle.mdr_typing.specs.Becoming.{becomes}
-use Rattle.mdr_typing.specs.Sources.{call_as, call_assigned, call_source, source_assigned, source_returned, source_stored}
+use Rattle.mdr_typing.specs.Sources.{call_as, call_assigned, call_source, is_plain, source_assigned, source_returned, source_stored, value_assigned}
 use Rattle.mdr_typing.specs.declared.source.Source.{Source}
-use Rattle.std.proofs.Common.{List, None, Option, Some, ℕ}
-use Rattle.mdr_assign.specs.Assignments.{one}
-use Rattle.mdr_core.specs.declared.code.BinOp.{BinOp}
+use Rattle.std.proofs.Common.{List, Option, not, ℕ, ◌&&◌}
 use Rattle.mdr_rich.specs.declared.code.Lval.{Lval}
-use Rattle.mdr_core.specs.declared.types.Ty.{Ty}
-use Rattle.mdr_operand.specs.declared.operand.Operand.TheVariants as operand
-use Rattle.mdr_operand.specs.declared.operator.AssignmentOperator.TheVariants.{Plain, Compound}
+use Rattle.mdr_core.specs.declared.types.Ty.{Ty, out-Ty}
 use Rattle.mdr_operand.specs.declared.operator.AssignmentOperator.{AssignmentOperator}
 use Rattle.mdr_typing.specs.Profile.{assigned, stepped, called, stored, returned}
-use Rattle.mdr_typing.specs.Sources.{source_of}
+use Rattle.mdr_typing.specs.Sources.{cast_source, is_pointer_of, is_pointer_value, pointer_source, source_of}
 use Rattle.mdr_typing.specs.declared.source.Source.TheVariants as source
 
 -- ---- assignments
 
 module _ (p q : Place) where
-  scalar_objects : (l : Lval) (u : Ty) → AreAlike (scalar_object p l u) (scalar_object q l u)
-  unfolding scalar_object
-  scalar_objects l u = chosen_alike (is_scalar u) (Rights _) (Wrongs _ _)
-
-  destinations : (x : Operand) → AreAlike (destination_at p x) (destination_at q x)
-  unfolding destination_at
-  destinations (operand.Value v) = Wrongs _ _
-  destinations (operand.Zero k) = Wrongs _ _
-  destinations operand.Null = Wrongs _ _
-  destinations (operand.Object l u) = scalar_objects l u
-  destinations (operand.Array l u n) = Wrongs _ _
-  destinations (operand.Function f us) = Wrongs _ _
-
-  plains : (d : Destination) (y : Operand) → AreAlike (plain_at p d y) (plain_at q d y)
-  unfolding plain_at
-  plains d y = after_alike (conversions p q d.ty y) (λ e. Rights _)
-
   calls_as : (u : Ty) (c : TypedCall) → AreAlike (call_as p u c) (call_as q u c)
   unfolding call_as
   calls_as u c = chosen_alike (becomes c.result u) (Rights _) (Wrongs _ _)
@@ -75,48 +53,30 @@ module _ (p q : Place) where
   returned_sources u (source.Value x) = after_alike (conversions p q u x) (λ e. Rights _)
   returned_sources u (source.Call c) = after_alike (calls_as u c) (λ f. Rights _)
 
-  assigned_calls : (op : Option AssignmentOperator) (c : TypedCall) (d : Destination) → AreAlike (call_assigned p op c d) (call_assigned q op c d)
+  assigned_calls : (x : Operand) (c : TypedCall) → AreAlike (call_assigned p x c) (call_assigned q x c)
   unfolding call_assigned
-  assigned_calls None c d = Wrongs _ _
-  assigned_calls (Some Plain) c d = stored_sources d.object d.ty (source.Call c)
-  assigned_calls (Some (Compound op)) c d = Wrongs _ _
+  assigned_calls x c = after_alike (destinations p q x) (λ d. stored_sources d.object d.ty (source.Call c))
 
 module _ {s t : Scope} (a : AreScopes s t) (p q : Place) where
-  compounds : (op : BinOp) (d : Destination) (y : Operand) → AreAlike (compound_at s p op d y) (compound_at t q op d y)
-  unfolding compound_at
-  compounds op d y = after_alike (calculation_rules a p q op (old_value d) y) (plains p q d)
-
-  assignments_by : (op : Option AssignmentOperator) (d : Destination) (y : Operand) → AreAlike (assigned_by s p op d y) (assigned_by t q op d y)
-  unfolding assigned_by
-  assignments_by None d y = Wrongs _ _
-  assignments_by (Some Plain) d y = plains p q d y
-  assignments_by (Some (Compound op)) d y = compounds op d y
-
-  assignments_at : (op : Option AssignmentOperator) (x y : Operand) → AreAlike (assigned_at s p op x y) (assigned_at t q op x y)
-  unfolding assigned_at
-  assignments_at op x y = after_alike (destinations p q x) (λ d. assignments_by op d y)
-
-  assignment_rules : (op : Option AssignmentOperator) {c c' d d' : Checked Operand} → AreAlike c c' → AreAlike d d' → AreAlike (assignment_rule s p op c d) (assignment_rule t q op c' d')
-  unfolding assignment_rule
-  assignment_rules op h k = both_alike h k (assignments_at op)
-
-  steps_by : (op : Option BinOp) (d : Destination) → AreAlike (stepped_by s p op d) (stepped_by t q op d)
-  unfolding stepped_by
-  steps_by None d = Wrongs _ _
-  steps_by (Some op) d = compounds op d one
-
-  steps_at : (op : Option BinOp) (x : Operand) → AreAlike (stepped_at s p op x) (stepped_at t q op x)
-  unfolding stepped_at
-  steps_at op x = after_alike (destinations p q x) (steps_by op)
-
-  step_rules : (op : Option BinOp) {c d : Checked Operand} → AreAlike c d → AreAlike (step_rule s p op c) (step_rule t q op d)
-  unfolding step_rule
-  step_rules op h = after_alike h (steps_at op)
+  assigned_values : (op : Option AssignmentOperator) (x y : Operand) → AreAlike (value_assigned s p op x y) (value_assigned t q op x y)
+  unfolding value_assigned
+  assigned_values op x y = after_alike (assignment_rules a p q op (Rights x) (Rights y)) (λ e. Rights _)
 
   assigned_sources : (op : Option AssignmentOperator) (x : Operand) (y : Source) → AreAlike (source_assigned s p op x y) (source_assigned t q op x y)
   unfolding source_assigned
-  assigned_sources op x (source.Value y) = after_alike (assignment_rules op (Rights x) (Rights y)) (λ e. Rights _)
-  assigned_sources op x (source.Call c) = after_alike (destinations p q x) (assigned_calls p q op c)
+  assigned_sources op x (source.Value y) = assigned_values op x y
+  assigned_sources op x (source.Call c) = chosen_alike (is_plain op && not (is_active_operand x)) (assigned_calls p q x c) (after_alike (call_values p q c) (assigned_values op x))
+
+-- ---- behind casts
+
+pointer_sources : {c d : Checked Source} → AreAlike c d → (x : Operand) → AreAlike (pointer_source c x) (pointer_source d x)
+pointer_sources (Rights (source.Value y)) x = Rights _
+pointer_sources (Rights (source.Call c)) x = chosen_alike (is_pointer_of (out-Ty c.result) x) (Rights _) (Rights _)
+pointer_sources (Wrongs f g) x = Rights _
+
+cast_sources : {c d : Checked Source} → AreAlike c d → (x : Operand) → AreAlike (cast_source c x) (cast_source d x)
+unfolding cast_source
+cast_sources h x = chosen_alike (is_pointer_value x) (pointer_sources h x) (Rights _)
 
 -- ---- as they are written
 
@@ -127,7 +87,7 @@ module _ {s t : Scope} {ns ms : List LocalName} (a : AreScopes s t) (h : Pairs A
   sources (Names p q name) = after_alike (expressions a h (Names p q name)) (λ x. Rights (source.Value x))
   sources (Prefixes p q op r) = after_alike (expressions a h (Prefixes p q op r)) (λ x. Rights (source.Value x))
   sources (Posts p q op r) = after_alike (expressions a h (Posts p q op r)) (λ x. Rights (source.Value x))
-  sources (Casts p q n bs r) = after_alike (expressions a h (Casts p q n bs r)) (λ x. Rights (source.Value x))
+  sources (Casts p q n bs r) = after_alike (expressions a h (Casts p q n bs r)) (cast_sources (sources r))
   sources (Binaries p q op r k) = after_alike (expressions a h (Binaries p q op r k)) (λ x. Rights (source.Value x))
   sources (Choices p q r k l) = after_alike (expressions a h (Choices p q r k l)) (λ x. Rights (source.Value x))
   sources (Subscripts p q r k) = after_alike (expressions a h (Subscripts p q r k)) (λ x. Rights (source.Value x))

@@ -85,7 +85,7 @@ unfoldable pub member_named : Scope → (p at : Place) → List ℕ → Ty → C
 member_named scope p at name t = after (needed p (struct_entry scope (struct_of t))) (member_among at name)
 
 abbrev pub member_operand : Located → Found → Operand
-member_operand x m = object_operand (lval.Member x.lval m.number) m.object
+member_operand x m = object_operand (lval.Member x.lval m.number m.object.ty) m.object
 
 unfoldable pub member_in : Scope → (p at : Place) → List ℕ → Located → Checked Operand
 member_in scope p at name x = after (member_named scope p at name x.ty) (λ m. Right (member_operand x m))

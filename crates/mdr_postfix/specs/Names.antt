@@ -5,6 +5,7 @@ use Rattle.mdr_rich.specs.declared.code.Expr.TheVariants as expr
 use Rattle.mdr_rich.specs.declared.code.Lval.{Lval}
 use Rattle.mdr_rich.specs.declared.code.Lval.TheVariants as lval
 use Rattle.mdr_core.specs.declared.place.Place.{Place}
+use Rattle.mdr_core.specs.declared.types.Ty.{Ty}
 use Rattle.mdr_core.specs.declared.value.Value.TheVariants as value
 use Rattle.mdr_core.specs.Layout.{chosen}
 use Rattle.mdr_faults.specs.declared.fault.FaultKind.TheVariants.{UnknownName}
@@ -36,18 +37,18 @@ function_operand f = operand.Function f.number (f.result ∷ f.params)
 
 unfoldable pub entity_operand : Entity → Operand
 entity_operand (entity.Constant c) = constant_operand c
-entity_operand (entity.Global g o) = object_operand (lval.Global g) o
+entity_operand (entity.Global g o) = object_operand (lval.Global g o.ty) o
 entity_operand (entity.Function f) = function_operand f
 
 unfoldable pub file_name : Place → Option Named → Checked Operand
 file_name p None = refuse p UnknownName
 file_name p (Some entry) = after (again entry.means) (λ e. Right (entity_operand e))
 
-abbrev pub place_of_local : LocalName → Lval
-place_of_local n = chosen n.is_object (lval.Object n.slot) (lval.Slot n.slot)
+abbrev pub place_of_local : LocalName → Ty → Lval
+place_of_local n t = chosen n.is_object (lval.Object n.slot t) (lval.Slot n.slot t)
 
 unfoldable pub local_operand : LocalName → Checked Operand
-local_operand n = after (again n.means) (λ o. Right (object_operand (place_of_local n) o))
+local_operand n = after (again n.means) (λ o. Right (object_operand (place_of_local n o.ty) o))
 
 abbrev pub local_or : Option LocalName → Checked Operand → Checked Operand
 local_or None other = other

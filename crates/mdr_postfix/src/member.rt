@@ -4,12 +4,13 @@ ghost use Rattle.std.specs.Prelude.{◌≡◌, IfOk, slice_get};
 ghost use Rattle.std.specs.Option.{option_copied};
 ghost use Rattle.mdr_faults.specs.Faults.{Checked, told};
 ghost use Rattle.mdr_operand.specs.declared.operand.Operand.{Operand};
+ghost use Rattle.mdr_rich.specs.declared.code.Lval.TheVariants as lval;
 ghost use Rattle.mdr_postfix.specs.Members.{object_of, object_at, target, target_located, located, struct_of, struct_entry, member_numbered, member_position, member_among, member_named, member_operand, member_in, member_of, member_rule};
 
 use crate::located::{Located, given_up, nothing};
 use crate::name::{copied_object, object_operand};
 use mdr_core::{Boxed, OutOfMemory, Place, Ty};
-use mdr_faults::{Fault, FaultKind, Member, Object, Scope, StructEntry, small};
+use mdr_faults::{Fault, FaultKind, Member, Object, Scope, StructEntry, copied_type, small};
 use mdr_operand::{Operand, Pointer, needed, pointer_at};
 use mdr_rich::Lval;
 use std::alloc::{AllocError, Global};
@@ -166,13 +167,18 @@ fn member_named(
     }
 }
 
+fn member_place(alloc: Global, whole: Lval, number: u32, ty: &Ty) -> Result<Lval, AllocError>
+    ensures { IfOk result (λ l. l ≡ lval.Member whole number ty.now) }
+{
+    let whole = Boxed::new(alloc, whole)?;
+    Ok(Lval::Member(whole, number, copied_type(alloc, ty)?))
+}
+
 fn member_operand(alloc: Global, x: Located, member: Found) -> Result<Operand, AllocError>
     ensures { IfOk result (λ y. y ≡ member_operand x member) }
 {
-    Ok(object_operand(
-        Lval::Member(Boxed::new(alloc, x.lval)?, member.number),
-        member.object,
-    ))
+    let place = member_place(alloc, x.lval, member.number, &member.object.ty)?;
+    Ok(object_operand(place, member.object))
 }
 
 #[tactic(auto, unfolding(crate::specs::Members::member_in))]

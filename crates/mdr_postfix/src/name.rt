@@ -3,6 +3,7 @@
 ghost use Rattle.std.specs.Prelude.{◌≡◌, ◌∷◌, IfOk};
 ghost use Rattle.std.specs.Option.{option_copied};
 ghost use Rattle.mdr_faults.specs.Faults.{told};
+ghost use Rattle.mdr_rich.specs.declared.code.Lval.TheVariants as lval;
 ghost use Rattle.mdr_postfix.specs.Names.{object_operand, constant_operand, entity_operand, file_name, place_of_local, local_operand, name_rule};
 
 use mdr_core::{Items, Place, Ty, Value};
@@ -59,13 +60,20 @@ fn signature_types(alloc: Global, f: &Signature) -> Result<Items<Ty>, AllocError
     with_first(copied_type(alloc, &f.result)?, params)
 }
 
+fn global_operand(alloc: Global, g: u32, o: &Object) -> Result<Operand, AllocError>
+    ensures { IfOk result (λ x. x ≡ object_operand (lval.Global g o.now.ty) o.now) }
+{
+    let object = copied_object(alloc, o)?;
+    Ok(object_operand(Lval::Global(g, copied_type(alloc, &o.ty)?), object))
+}
+
 #[tactic(auto, unfolding(crate::specs::Names::entity_operand))]
 fn entity_operand(alloc: Global, entity: &Entity) -> Result<Operand, AllocError>
     ensures { IfOk result (λ x. x ≡ entity_operand entity.now) }
 {
     match entity {
         Entity::Constant(c) => Ok(constant_operand(*c)),
-        Entity::Global(g, o) => Ok(object_operand(Lval::Global(*g), copied_object(alloc, o)?)),
+        Entity::Global(g, o) => global_operand(alloc, *g, o),
         Entity::Function(f) => Ok(Operand::Function(f.number, signature_types(alloc, f)?)),
     }
 }
@@ -90,14 +98,22 @@ fn file_name(
     }
 }
 
-fn place_of_local(local: &LocalName) -> Lval
-    ensures { result ≡ place_of_local local.now }
+fn place_of_local(local: &LocalName, ty: Ty) -> Lval
+    ensures { result ≡ place_of_local local.now ty }
 {
     if local.is_object {
-        Lval::Object(local.slot)
+        Lval::Object(local.slot, ty)
     } else {
-        Lval::Slot(local.slot)
+        Lval::Slot(local.slot, ty)
     }
+}
+
+fn object_of_local(alloc: Global, local: &LocalName, o: &Object) -> Result<Operand, AllocError>
+    ensures { IfOk result (λ x. x ≡ object_operand (place_of_local local.now o.now.ty) o.now) }
+{
+    let object = copied_object(alloc, o)?;
+    let ty = copied_type(alloc, &o.ty)?;
+    Ok(object_operand(place_of_local(local, ty), object))
 }
 
 #[tactic(auto, unfolding(crate::specs::Names::local_operand))]
@@ -105,7 +121,7 @@ fn local_operand(alloc: Global, local: &LocalName) -> Result<Result<Operand, Fau
     ensures { IfOk result (λ r. r ≡ told (local_operand local.now)) }
 {
     match &local.means {
-        Ok(o) => Ok(Ok(object_operand(place_of_local(local), copied_object(alloc, o)?))),
+        Ok(o) => Ok(Ok(object_of_local(alloc, local, o)?)),
         Err(fault) => Ok(Err(*fault)),
     }
 }

@@ -1,14 +1,17 @@
 -- What occurs in the parts of a program occurs in the program.
-use Rattle.std.proofs.Common.{ℕ, zero, suc, ◌≡◌, ◌⊎◌, inl, inr, refl, List, [], ◌∷◌, ◌++◌, map, Option, Some, None, slice_get, ap}
+use Rattle.std.proofs.Common.{ℕ, zero, suc, ◌≡◌, ◌⊎◌, inl, inr, refl, Bool, true, false, List, [], ◌∷◌, ◌++◌, map, Option, Some, None, slice_get, ap}
 use Rattle.mdr_core.specs.declared.program.Func.{Func}
 use Rattle.mdr_core.specs.declared.program.GlobalDef.{GlobalDef}
+use Rattle.mdr_core.specs.declared.program.Local.{Local}
 use Rattle.mdr_core.specs.declared.program.Program.{Program}
 use Rattle.mdr_core.specs.declared.program.StructDef.{StructDef}
 use Rattle.mdr_core.specs.declared.code.Stmt.{Stmt}
 use Rattle.mdr_core.specs.declared.types.Ty.{Ty}
 use Rattle.mdr_core.specs.Code.{Code, Codes}
 use Rattle.mdr_core.specs.Folds.{codes_of}
-use Rattle.mdr_core.specs.TypeText.{Allocates, AllocatesIn, Occurs, OfField, OfGlobal, OfParam, OfLocal, OfAllocation}
+use Rattle.mdr_core.specs.Layout.{chosen}
+use Rattle.mdr_core.specs.TypeText.{Allocates, AllocatesIn}
+use Rattle.mdr_lower.specs.Tables.{is_counted, Occurs, OfField, OfGlobal, OfParam, OfLocal, OfAllocation}
 use Rattle.mdr_check.specs.declared.variable.Variable.{Variable}
 use Rattle.mdr_check.specs.Tables.{type_table}
 use Rattle.mdr_program.specs.declared.parts.Parts.{Parts}
@@ -39,6 +42,16 @@ found : {A : Type 0} (f : A → Ty) (t : Ty) (xs : List A) → IsAmong t (map f 
 found f t [] h = absurd h
 found f t (x ∷ xs) (inl e) = record { number = 0; item = x; names = refl; known = e }
 found f t (x ∷ xs) (inr h) = behind_one (λ x. f x ≡ t) x xs (found f t xs h)
+
+-- a local that is counted
+found_local : (t : Ty) (ls : List Local) → IsAmong t (local_types ls) → Found (λ (l : Local). (is_counted l ≡ true) × (l.ty ≡ t)) ls
+found_local t [] h = absurd h
+found_local t (l ∷ ls) h = by (is_counted l) refl h (found_local t ls)
+  where
+    by : (b : Bool) → is_counted l ≡ b → IsAmong t (chosen b (l.ty ∷ local_types ls) (local_types ls)) → (IsAmong t (local_types ls) → Found (λ (x : Local). (is_counted x ≡ true) × (x.ty ≡ t)) ls) → Found (λ (x : Local). (is_counted x ≡ true) × (x.ty ≡ t)) (l ∷ ls)
+    by true e (inl is) rest = record { number = 0; item = l; names = refl; known = (e, is) }
+    by true e (inr m) rest = behind_one (λ (x : Local). (is_counted x ≡ true) × (x.ty ≡ t)) l ls (rest m)
+    by false e m rest = behind_one (λ (x : Local). (is_counted x ≡ true) × (x.ty ≡ t)) l ls (rest m)
 
 found_struct : (t : Ty) (ds : List StructDef) → IsAmong t (struct_types ds) → Found (λ (d : StructDef). IsAmong t (field_types d.fields)) ds
 unfolding struct_types
@@ -108,7 +121,7 @@ field_occurs program t h =
 
 func_by_part : (program : Program) (t : Ty) (f : ℕ) (func : Func) → slice_get program.funcs f ≡ Some func → IsAmong t (param_types func.params) ⊎ (IsAmong t (local_types func.locals) ⊎ IsAmong t (body_types func.body)) → Occurs program t
 func_by_part program t f func names (inl m) = let x = found (λ p. p.ty) t func.params m in OfParam f x.number func x.item names x.names x.known
-func_by_part program t f func names (inr (inl m)) = let x = found (λ l. l.ty) t func.locals m in OfLocal f x.number func x.item names x.names x.known
+func_by_part program t f func names (inr (inl m)) = let x = found_local t func.locals m in OfLocal f x.number func x.item names x.names x.known.0 x.known.1
 func_by_part program t f func names (inr (inr m)) = body_occurs program t f func func.body names refl m
 
 func_occurs : (program : Program) (t : Ty) → Found (λ (f : Func). IsAmong t (func_types f)) program.funcs → Occurs program t

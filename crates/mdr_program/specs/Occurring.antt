@@ -10,6 +10,8 @@ use Rattle.mdr_core.specs.declared.program.Local.{Local}
 use Rattle.mdr_core.specs.declared.code.Stmt.{Stmt}
 use Rattle.mdr_core.specs.Code.{Code, Codes}
 use Rattle.mdr_core.specs.Folds.{codes_of}
+use Rattle.mdr_core.specs.Layout.{chosen}
+use Rattle.mdr_lower.specs.Tables.{is_counted}
 use Rattle.mdr_check.specs.declared.variable.Variable.{Variable}
 use Rattle.mdr_program.specs.declared.parts.Parts.{Parts}
 
@@ -26,9 +28,10 @@ global_types vs = map (λ v. v.object.ty) vs
 abbrev pub param_types : List Param → List Ty
 param_types ps = map (λ p. p.ty) ps
 
--- locals in slots, too
+-- locals in slots, too, but for those that lowering took
 abbrev pub local_types : List Local → List Ty
-local_types ls = map (λ l. l.ty) ls
+local_types [] = []
+local_types (l ∷ ls) = chosen (is_counted l) (l.ty ∷ local_types ls) (local_types ls)
 
 abbrev pub shape_types : Option Ty → List Ty
 shape_types None = []

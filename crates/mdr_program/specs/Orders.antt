@@ -6,8 +6,9 @@ use Rattle.mdr_core.specs.declared.program.StructDef.{StructDef}
 use Rattle.mdr_core.specs.declared.types.Ty.{Ty}
 use Rattle.mdr_core.specs.declared.types.Ty.TheVariants as type
 use Rattle.mdr_core.specs.Kinds.{kind_number}
-use Rattle.mdr_core.specs.TypeText.{text_of, is_before, Occurs}
+use Rattle.mdr_core.specs.TypeText.{text_of, is_before}
 use Rattle.mdr_core.specs.Types.{first_types, is_pointer}
+use Rattle.mdr_lower.specs.Tables.{Occurs}
 use Rattle.mdr_check.specs.declared.table.TextedType.{TextedType}
 use Rattle.mdr_check.specs.Tables.{struct_types, types_alone, type_table}
 use Rattle.mdr_program.specs.declared.parts.Parts.{Parts}

@@ -1,6 +1,6 @@
 -- believed
 -- What a file declares: its structs, globals and functions by their numbers (C99 6.7, 6.9).
-use Rattle.std.specs.Prelude.{ℕ, ◌+◌, Bool, false, List, [], ◌∷◌, ◌++◌, position, Option, Some, None, slice_get, slice_set}
+use Rattle.std.specs.Prelude.{ℕ, ◌+◌, Bool, false, List, [], ◌∷◌, ◌++◌, length, position, Option, Some, None, slice_get, slice_set}
 use Rattle.std.specs.Str.{bytes_eq}
 use Rattle.mdr_core.specs.declared.program.Func.{Func}
 use Rattle.mdr_core.specs.declared.program.Param.{Param}
@@ -8,6 +8,7 @@ use Rattle.mdr_check.specs.declared.file.Piece.{Piece}
 use Rattle.mdr_check.specs.declared.file.Piece.TheVariants as piece
 use Rattle.mdr_headings.specs.declared.body.Body.{Body}
 use Rattle.mdr_headings.specs.declared.head.Heading.{Heading}
+use Rattle.mdr_lower.specs.declared.work.Work.{Work}
 use Rattle.mdr_lower.specs.Lowering.{lowered}
 use Rattle.mdr_program.specs.declared.parts.Parts.{Parts}
 
@@ -26,9 +27,12 @@ marked objects i (p ∷ ps) = flagged p (slice_get objects i) ∷ marked objects
 abbrev pub remote : List ℕ → Heading → Func
 remote name h = record { name = name; params = h.params; result = h.result; ann = h.ann; locals = []; critical = false; body = None }
 
--- a function with its body, which is lowered: the names of its parameters are those that stand before the body (6.9.1, paragraph 5)
+abbrev pub whole_by : List ℕ → Bool → Heading → Body → Work → Func
+whole_by name is_critical h b w = record { name = name; params = marked b.objects 0 h.params; result = h.result; ann = h.ann; locals = b.locals ++ w.slots; critical = is_critical; body = Some w.code }
+
+-- a function with its body, which is lowered, with new slots behind its own: the names of its parameters are those that stand before the body (6.9.1, paragraph 5)
 abbrev pub whole : List ℕ → Bool → Heading → Body → Func
-whole name is_critical h b = record { name = name; params = marked b.objects 0 h.params; result = h.result; ann = h.ann; locals = b.locals; critical = is_critical; body = Some (lowered b.statements) }
+whole name is_critical h b = whole_by name is_critical h b (lowered (length h.params + length b.locals) b.statements)
 
 -- ---- functions by their numbers
 

@@ -2,6 +2,7 @@
 
 ghost use Rattle.std.specs.Prelude.{◌≡◌, ◌++◌, OnOk, IfOk};
 ghost use Rattle.mdr_core.specs.Folds.{code_of, codes_of};
+ghost use Rattle.mdr_lower.specs.Tables.{is_counted};
 ghost use Rattle.mdr_program.specs.Occurring.{field_types, struct_types, global_types, param_types, local_types, shape_types, allocated, allocated_in, body_types, func_types, funcs_types, occurring};
 
 use crate::parts::Parts;
@@ -55,11 +56,19 @@ fn add_param_types(alloc: Global, all: &mut Items<Ty>, params: &[Param]) -> Resu
     Ok(())
 }
 
+fn is_counted(l: &Local) -> bool
+    ensures { result ≡ is_counted l.now }
+{
+    l.object || l.name.len() != 0
+}
+
 fn add_local_types(alloc: Global, all: &mut Items<Ty>, locals: &[Local]) -> Result<(), AllocError>
     ensures { OnOk result (all.new ≡ all.old ++ local_types locals.now) }
 {
     for l in locals {
-        all.push(copied_type(alloc, &l.ty)?)?;
+        if is_counted(l) {
+            all.push(copied_type(alloc, &l.ty)?)?;
+        }
     }
     Ok(())
 }

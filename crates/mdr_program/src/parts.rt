@@ -1,14 +1,15 @@
 // What a file declares: its structs, globals and functions by their numbers (C99 6.7, 6.9).
 
-ghost use Rattle.std.specs.Prelude.{◌≡◌, ◌++◌, ◌∷◌, [], IfOk, slice_get, slice_set, position};
+ghost use Rattle.std.specs.Prelude.{◌≡◌, ◌+◌, ◌++◌, ◌∷◌, [], Err, IfOk, length, slice_get, slice_set, position};
 ghost use Rattle.std.specs.Option.{option_copied};
 ghost use Rattle.std.specs.Str.{bytes_eq};
-ghost use Rattle.mdr_program.specs.Parts.{flagged, marked, remote, whole, number_among, declared, defined, behind_piece, parts_behind, no_parts, parts_of};
+ghost use Rattle.mdr_lower.specs.Lowering.{lowered};
+ghost use Rattle.mdr_program.specs.Parts.{flagged, marked, remote, whole_by, whole, number_among, declared, defined, behind_piece, parts_behind, no_parts, parts_of};
 
 use mdr_check::{Piece, Variable};
-use mdr_core::{Func, Items, Name, Param, StructDef};
+use mdr_core::{Func, Items, Local, Name, Param, StructDef};
 use mdr_headings::{Body, Heading};
-use mdr_lower::lowered;
+use mdr_lower::{Work, lowered};
 use std::alloc::{AllocError, Global};
 
 /// The structs, globals and functions of a file, by their numbers.
@@ -64,6 +65,73 @@ fn remote(alloc: Global, name: Name, h: Heading) -> Func
     }
 }
 
+/// The number of the first new slot.
+fn first_slot(params: &[Param], locals: &[Local]) -> Result<u32, AllocError>
+    ensures { IfOk result (λ n. n ≡ length params.now + length locals.now) }
+{
+    match params.len().checked_add(locals.len()) {
+        Some(n) => slot_number(n),
+        None => Err(AllocError),
+    }
+}
+
+fn slot_number(n: usize) -> Result<u32, AllocError>
+    ensures { IfOk result (λ i. i ≡ n) }
+{
+    if n > u32::MAX as usize {
+        return Err(AllocError);
+    }
+    Ok(n as u32)
+}
+
+fn appended(locals: Items<Local>, more: Items<Local>) -> Result<Items<Local>, AllocError>
+    ensures { IfOk result (λ ls. ls ≡ locals ++ more) }
+{
+    let mut all = locals;
+    for l in more.into_vec() {
+        all.push(l)?;
+    }
+    Ok(all)
+}
+
+fn with_work(
+    alloc: Global,
+    name: Name,
+    is_critical: bool,
+    h: Heading,
+    b: Body,
+    work: Work,
+) -> Result<Func, AllocError>
+    ensures { IfOk result (λ f. f ≡ whole_by name is_critical h b work) }
+{
+    let params = marked(alloc, h.params, b.objects.as_slice())?;
+    let locals = appended(b.locals, work.slots)?;
+    Ok(Func {
+        name,
+        params,
+        result: h.result,
+        ann: h.ann,
+        locals,
+        critical: is_critical,
+        body: Some(work.code),
+    })
+}
+
+/// The code of a body, and what it needs of new slots.
+fn work_of(alloc: Global, h: &Heading, b: &Body) -> Result<Work, AllocError>
+    ensures { IfOk result (λ w. w ≡ lowered (length h.now.params + length b.now.locals) b.now.statements) }
+{
+    let first = first_slot(h.params.as_slice(), b.locals.as_slice())?;
+    lowered(alloc, first, b.statements.as_slice())
+}
+
+/// Want of memory in place of what was to become a function.
+fn left_over<A: Drop, B: Drop>(error: AllocError, _parts: A) -> Result<B, AllocError>
+    ensures { result ≡ Err error }
+{
+    Err(error)
+}
+
 /// A function with its body.
 fn whole(
     alloc: Global,
@@ -74,16 +142,10 @@ fn whole(
 ) -> Result<Func, AllocError>
     ensures { IfOk result (λ f. f ≡ whole name is_critical h b) }
 {
-    let statements = lowered(alloc, b.statements.as_slice())?;
-    Ok(Func {
-        name,
-        params: marked(alloc, h.params, b.objects.as_slice())?,
-        result: h.result,
-        ann: h.ann,
-        locals: b.locals,
-        critical: is_critical,
-        body: Some(statements),
-    })
+    match work_of(alloc, &h, &b) {
+        Ok(work) => with_work(alloc, name, is_critical, h, b, work),
+        Err(error) => left_over(error, (name, h, b)),
+    }
 }
 
 // ---- functions by their numbers

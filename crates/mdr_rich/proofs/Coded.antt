@@ -1,5 +1,5 @@
 -- The plain data of code: one equation for each form.
-use Rattle.std.proofs.Common.{◌≡◌, ℕ, Bool, List, map, Option, sym, ap, ◌∙◌}
+use Rattle.std.proofs.Common.{◌≡◌, ℕ, Bool, List, map, Option, None, sym, ap, ◌∙◌}
 use Rattle.std.specs.Option.{option_map}
 use Rattle.mdr_core.specs.declared.kind.Kind.{Kind}
 use Rattle.mdr_core.specs.declared.types.Ty.{Ty}
@@ -14,7 +14,7 @@ use Rattle.mdr_rich.specs.declared.code.Step.{Step}
 use Rattle.mdr_rich.specs.declared.code.Expr.TheOpen.{Expr-F, Lval-F}
 use Rattle.mdr_rich.specs.declared.code.Expr.TheFolds.{fold-roll-Expr, fold-roll-Lval}
 use Rattle.mdr_rich.specs.declared.code.Expr.TheVariants as expr
-use Rattle.mdr_rich.specs.declared.code.Expr.TheVariants.{rolls-Lit, rolls-Load, rolls-Addr, rolls-Decay, rolls-Neg, rolls-Flip, rolls-Not, rolls-Bin, rolls-Rel, rolls-And, rolls-Or, rolls-Conv, rolls-ToVoid, rolls-FromVoid, rolls-Move, rolls-Diff}
+use Rattle.mdr_rich.specs.declared.code.Expr.TheVariants.{rolls-Lit, rolls-Load, rolls-Addr, rolls-Decay, rolls-Neg, rolls-Flip, rolls-Not, rolls-Bin, rolls-Rel, rolls-And, rolls-Or, rolls-Conv, rolls-ToVoid, rolls-FromVoid, rolls-Move, rolls-Diff, rolls-Cond, rolls-CallDirect, rolls-CallThrough, rolls-CallService, rolls-Bump}
 use Rattle.mdr_rich.specs.declared.code.Lval.TheVariants as lval
 use Rattle.mdr_rich.specs.declared.code.Lval.TheVariants.{rolls-Slot, rolls-Object, rolls-Global, rolls-Deref, rolls-Member, rolls-Index}
 use Rattle.mdr_rich.specs.declared.code.Step.TheOpen.{Step-F}
@@ -22,7 +22,7 @@ use Rattle.mdr_rich.specs.declared.code.Step.TheFolds.{fold-Step, fold-roll-Step
 use Rattle.mdr_rich.specs.declared.code.Step.TheVariants as step
 use Rattle.mdr_rich.specs.declared.code.Step.TheVariants.{rolls-Declare, rolls-Text, rolls-Assign, rolls-Call, rolls-If, rolls-While, rolls-For, rolls-Return, rolls-ReturnCall, rolls-Break, rolls-Continue, rolls-Empty, rolls-Block}
 use Rattle.mdr_core.specs.Code.{Way}
-use Rattle.mdr_rich.specs.Code.{Term, Lvalue, Goal, Code, Codes}
+use Rattle.mdr_rich.specs.Code.{Term, Lvalue, Called, Goal, Code, Codes, term_list}
 use Rattle.mdr_rich.specs.Folds.{term_layer, lvalue_layer, term_of, lvalue_of, call_of, goal_of, test_of, before, step_layer, stmt_layer, code_of, codes_of}
 
 -- ---- expressions and lvalues
@@ -75,20 +75,35 @@ move_is back p i = ap term_of (sym (rolls-Move back p i)) ∙ fold-roll-Expr Ter
 pub diff_is : (p q : Expr) → term_of (expr.Diff p q) ≡ Term.Diff (term_of p) (term_of q)
 diff_is p q = ap term_of (sym (rolls-Diff p q)) ∙ fold-roll-Expr Term Lvalue term_layer lvalue_layer (Expr-F.Diff p q)
 
-pub slot_is : (i : ℕ) → lvalue_of (lval.Slot i) ≡ Lvalue.Slot i
-slot_is i = ap lvalue_of (sym (rolls-Slot i)) ∙ fold-roll-Lval Term Lvalue term_layer lvalue_layer (Lval-F.Slot i)
+pub cond_is : (t : Ty) (c a b : Expr) → term_of (expr.Cond t c a b) ≡ Term.Cond t (term_of c) (term_of a) (term_of b)
+cond_is t c a b = ap term_of (sym (rolls-Cond t c a b)) ∙ fold-roll-Expr Term Lvalue term_layer lvalue_layer (Expr-F.Cond t c a b)
 
-pub object_is : (i : ℕ) → lvalue_of (lval.Object i) ≡ Lvalue.Object i
-object_is i = ap lvalue_of (sym (rolls-Object i)) ∙ fold-roll-Lval Term Lvalue term_layer lvalue_layer (Lval-F.Object i)
+pub direct_is : (t : Ty) (f : ℕ) (args : List Expr) → term_of (expr.CallDirect t f args) ≡ Term.Call t (Called.Direct f) (term_list (map term_of args)) None None
+direct_is t f args = ap term_of (sym (rolls-CallDirect t f args)) ∙ fold-roll-Expr Term Lvalue term_layer lvalue_layer (Expr-F.CallDirect t f args)
 
-pub global_is : (g : ℕ) → lvalue_of (lval.Global g) ≡ Lvalue.Global g
-global_is g = ap lvalue_of (sym (rolls-Global g)) ∙ fold-roll-Lval Term Lvalue term_layer lvalue_layer (Lval-F.Global g)
+pub through_is : (t : Ty) (e : Expr) (args : List Expr) → term_of (expr.CallThrough t e args) ≡ Term.Call t (Called.Through (term_of e)) (term_list (map term_of args)) None None
+through_is t e args = ap term_of (sym (rolls-CallThrough t e args)) ∙ fold-roll-Expr Term Lvalue term_layer lvalue_layer (Expr-F.CallThrough t e args)
+
+pub service_is : (t : Ty) (n : ℕ) (args : List Expr) (shape : Option Ty) (format : Option (List ℕ)) → term_of (expr.CallService t n args shape format) ≡ Term.Call t (Called.Service n) (term_list (map term_of args)) shape format
+service_is t n args shape format = ap term_of (sym (rolls-CallService t n args shape format)) ∙ fold-roll-Expr Term Lvalue term_layer lvalue_layer (Expr-F.CallService t n args shape format)
+
+pub bump_is : (t : Ty) (up first : Bool) (p : Lval) → term_of (expr.Bump t up first p) ≡ Term.Bump t up first (lvalue_of p)
+bump_is t up first p = ap term_of (sym (rolls-Bump t up first p)) ∙ fold-roll-Expr Term Lvalue term_layer lvalue_layer (Expr-F.Bump t up first p)
+
+pub slot_is : (i : ℕ) (t : Ty) → lvalue_of (lval.Slot i t) ≡ Lvalue.Slot i t
+slot_is i t = ap lvalue_of (sym (rolls-Slot i t)) ∙ fold-roll-Lval Term Lvalue term_layer lvalue_layer (Lval-F.Slot i t)
+
+pub object_is : (i : ℕ) (t : Ty) → lvalue_of (lval.Object i t) ≡ Lvalue.Object i t
+object_is i t = ap lvalue_of (sym (rolls-Object i t)) ∙ fold-roll-Lval Term Lvalue term_layer lvalue_layer (Lval-F.Object i t)
+
+pub global_is : (g : ℕ) (t : Ty) → lvalue_of (lval.Global g t) ≡ Lvalue.Global g t
+global_is g t = ap lvalue_of (sym (rolls-Global g t)) ∙ fold-roll-Lval Term Lvalue term_layer lvalue_layer (Lval-F.Global g t)
 
 pub deref_is : (e : Expr) → lvalue_of (lval.Deref e) ≡ Lvalue.Deref (term_of e)
 deref_is e = ap lvalue_of (sym (rolls-Deref e)) ∙ fold-roll-Lval Term Lvalue term_layer lvalue_layer (Lval-F.Deref e)
 
-pub member_is : (p : Lval) (f : ℕ) → lvalue_of (lval.Member p f) ≡ Lvalue.Member (lvalue_of p) f
-member_is p f = ap lvalue_of (sym (rolls-Member p f)) ∙ fold-roll-Lval Term Lvalue term_layer lvalue_layer (Lval-F.Member p f)
+pub member_is : (p : Lval) (f : ℕ) (t : Ty) → lvalue_of (lval.Member p f t) ≡ Lvalue.Member (lvalue_of p) f t
+member_is p f t = ap lvalue_of (sym (rolls-Member p f t)) ∙ fold-roll-Lval Term Lvalue term_layer lvalue_layer (Lval-F.Member p f t)
 
 pub index_is : (p : Lval) (e : Expr) → lvalue_of (lval.Index p e) ≡ Lvalue.Index (lvalue_of p) (term_of e)
 index_is p e = ap lvalue_of (sym (rolls-Index p e)) ∙ fold-roll-Lval Term Lvalue term_layer lvalue_layer (Lval-F.Index p e)

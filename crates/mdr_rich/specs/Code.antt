@@ -1,6 +1,6 @@
--- for proofs
+-- believed
 -- The code of a source's bodies as plain data: what the rules of types make. Each form is one of these or made of them.
-use Rattle.std.specs.Prelude.{ℕ, Bool, List, Option}
+use Rattle.std.specs.Prelude.{ℕ, Bool, List, [], ◌∷◌, Option}
 use Rattle.mdr_core.specs.declared.kind.Kind.{Kind}
 use Rattle.mdr_core.specs.declared.types.Ty.{Ty}
 use Rattle.mdr_core.specs.declared.value.Value.{Value}
@@ -28,22 +28,37 @@ mutual
     -- a pointer moved by so many elements, and whether backwards
     Move : (back : Bool) → Term → Term → Term
     Diff : Term → Term → Term
+    -- `c ? a : b`, of the type
+    Cond : Ty → Term → (one other : Term) → Term
+    -- what a call gives, of the type: what is called, the arguments, the type that an allocation names, the text of a `printk`
+    Call : Ty → Called → Terms → (shape : Option Ty) → (format : Option (List ℕ)) → Term
+    -- an object of the type that is stepped by one, and whether upwards; its value is the new one, or else the old one
+    Bump : Ty → (up first : Bool) → Lvalue → Term
 
-  -- lvalues (C99 6.3.2.1)
+  -- lvalues (C99 6.3.2.1). With what has a name stands its type, of an array that of its elements
   pub data Lvalue : Type 0 where
     -- a local in a slot of its frame, and one that is an object
-    Slot : ℕ → Lvalue
-    Object : ℕ → Lvalue
-    Global : ℕ → Lvalue
+    Slot : ℕ → Ty → Lvalue
+    Object : ℕ → Ty → Lvalue
+    Global : ℕ → Ty → Lvalue
     Deref : Term → Lvalue
-    Member : Lvalue → (field : ℕ) → Lvalue
+    Member : Lvalue → (field : ℕ) → Ty → Lvalue
     Index : Lvalue → Term → Lvalue
 
--- what is called (C99 6.5.2.2)
-pub data Called : Type 0 where
-  Direct : (func : ℕ) → Called
-  Through : Term → Called
-  Service : ℕ → Called
+  -- what is called (C99 6.5.2.2)
+  pub data Called : Type 0 where
+    Direct : (func : ℕ) → Called
+    Through : Term → Called
+    Service : ℕ → Called
+
+  -- arguments
+  pub data Terms : Type 0 where
+    End : Terms
+    Then : Term → Terms → Terms
+
+abbrev pub term_list : List Term → Terms
+term_list [] = Terms.End
+term_list (e ∷ es) = Terms.Then e (term_list es)
 
 -- a call: what is called, the arguments, the type that an allocation names, the text of a `printk`
 pub record CallOf : Type 0 where

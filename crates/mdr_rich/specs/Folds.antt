@@ -1,4 +1,4 @@
--- for proofs
+-- believed
 -- The code of a source's bodies as plain data: one line for each form.
 use Rattle.std.specs.Prelude.{ℕ, pos, List, [], ◌∷◌, map, Option, Some, None}
 use Rattle.std.specs.Option.{option_map}
@@ -15,16 +15,16 @@ use Rattle.mdr_rich.specs.declared.code.Step.TheOpen.{Step-F, Stmt-F}
 use Rattle.mdr_rich.specs.declared.code.Step.TheFolds.{fold-Stmt}
 use Rattle.mdr_rich.specs.declared.code.Stmt.{Stmt}
 use Rattle.mdr_core.specs.Code.{Way}
-use Rattle.mdr_rich.specs.Code.{Term, Lvalue, Called, CallOf, Goal, Code, Codes}
+use Rattle.mdr_rich.specs.Code.{Term, Lvalue, Called, CallOf, Goal, Code, Codes, term_list}
 
 -- ---- expressions
 
 abbrev pub lvalue_layer : Lval-F Term Lvalue → Lvalue
-lvalue_layer (Lval-F.Slot i) = Lvalue.Slot i
-lvalue_layer (Lval-F.Object i) = Lvalue.Object i
-lvalue_layer (Lval-F.Global g) = Lvalue.Global g
+lvalue_layer (Lval-F.Slot i t) = Lvalue.Slot i t
+lvalue_layer (Lval-F.Object i t) = Lvalue.Object i t
+lvalue_layer (Lval-F.Global g t) = Lvalue.Global g t
 lvalue_layer (Lval-F.Deref e) = Lvalue.Deref e
-lvalue_layer (Lval-F.Member p f) = Lvalue.Member p f
+lvalue_layer (Lval-F.Member p f t) = Lvalue.Member p f t
 lvalue_layer (Lval-F.Index p e) = Lvalue.Index p e
 
 abbrev pub term_layer : Expr-F Term Lvalue → Term
@@ -44,6 +44,11 @@ term_layer (Expr-F.ToVoid e) = Term.ToVoid e
 term_layer (Expr-F.FromVoid t e) = Term.FromVoid t e
 term_layer (Expr-F.Move back p e) = Term.Move back p e
 term_layer (Expr-F.Diff p q) = Term.Diff p q
+term_layer (Expr-F.Cond t c a b) = Term.Cond t c a b
+term_layer (Expr-F.CallDirect t f args) = Term.Call t (Called.Direct f) (term_list args) None None
+term_layer (Expr-F.CallThrough t e args) = Term.Call t (Called.Through e) (term_list args) None None
+term_layer (Expr-F.CallService t n args shape format) = Term.Call t (Called.Service n) (term_list args) shape format
+term_layer (Expr-F.Bump t up first p) = Term.Bump t up first p
 
 abbrev pub term_of : Expr → Term
 term_of = fold-Expr Term Lvalue term_layer lvalue_layer

@@ -1,3 +1,5 @@
+pub mod Activity
+pub mod Carried
 pub mod Code
 pub mod Folds
 pub mod Typing

@@ -1,6 +1,7 @@
 -- for proofs
 -- The types of the forms of a source's bodies (C99 6.5, 6.8): the rules of a program's forms, over those of their parts.
 use Rattle.std.specs.Prelude.{◌≡◌, ℕ, Bool, true, false, List, [], ◌∷◌, length, map, Option, Some, None, slice_get, IsTrue, ◌⊎◌}
+use Rattle.mdr_core.specs.declared.kind.Kind.{Kind}
 use Rattle.mdr_core.specs.declared.types.Ty.{Ty}
 use Rattle.mdr_core.specs.declared.types.Ty.TheVariants as type
 use Rattle.mdr_core.specs.declared.program.Program.{Program}
@@ -8,19 +9,19 @@ use Rattle.mdr_core.specs.declared.program.Func.{Func}
 use Rattle.mdr_core.specs.declared.program.Param.{Param}
 use Rattle.mdr_core.specs.declared.value.Value.TheVariants as value
 use Rattle.mdr_core.specs.Services.{Service, RequestIrq, Signature, offered, service_numbered}
-use Rattle.mdr_core.specs.Types.{Becomes, is_scalar}
-use Rattle.mdr_core.specs.Typing.{Slot, Extent, One, ptr, Literal, IsSlot, IsGlobal, IsTarget, IsMember, IsElement, IsLoad, IsDecay, IsUnary, IsCondition, IsNegation, IsBinary, IsRelation, IsLogical, IsConversion, IsToVoid, IsFromVoid, IsMove, IsDifference, NamesObject, IsLocal, TakesText, JumpsInside, IsIf, IsLoop, IsNumbered}
-use Rattle.mdr_rich.specs.Code.{Term, Lvalue, Called, CallOf, Goal, Code, Codes}
+use Rattle.mdr_core.specs.Types.{Scalar, Becomes, is_scalar, sort_of}
+use Rattle.mdr_core.specs.Typing.{Slot, Extent, One, Many, int, ptr, Literal, IsSlot, IsGlobal, IsTarget, IsMember, IsElement, IsLoad, IsDecay, IsUnary, IsCondition, IsNegation, IsBinary, IsRelation, IsLogical, IsConversion, IsToVoid, IsFromVoid, IsMove, IsDifference, IsLocal, TakesText, JumpsInside, IsIf, IsLoop, IsNumbered}
+use Rattle.mdr_rich.specs.Code.{Term, Lvalue, Called, Terms, CallOf, Goal, Code, Codes, term_list}
 
 -- ---- addresses
 
 -- a parameter or local in a slot has no address
 abbrev pub HasAddress : Lvalue → Type 0
-HasAddress (Lvalue.Slot i) = ⊥
-HasAddress (Lvalue.Object i) = Unit {0}
-HasAddress (Lvalue.Global g) = Unit {0}
+HasAddress (Lvalue.Slot i t) = ⊥
+HasAddress (Lvalue.Object i t) = Unit {0}
+HasAddress (Lvalue.Global g t) = Unit {0}
 HasAddress (Lvalue.Deref e) = Unit {0}
-HasAddress (Lvalue.Member p f) = HasAddress p
+HasAddress (Lvalue.Member p f t) = HasAddress p
 HasAddress (Lvalue.Index p e) = HasAddress p
 
 -- the address of an object (6.5.3.2, paragraph 3)
@@ -30,15 +31,114 @@ pub record IsAddress (lvalue : Lvalue) (p : Extent → Type 0) (t : Ty) : Type 0
   pub kept : HasAddress lvalue
   pub is : t ≡ ptr type
 
+-- ---- types that forms carry
+
+-- of what is designated, of an array that of its elements
+abbrev pub type_in : Extent → Ty
+type_in (One t) = t
+type_in (Many t n) = t
+
+-- a scalar type of a program with so many structs
+abbrev pub IsScalar : Program → Ty → Type 0
+IsScalar program t = sort_of (length program.structs) t ≡ Scalar
+
+-- what an allocation names is a type of objects. That it stands in the type table is asked of a program's code
+abbrev pub IsShape : Program → Option Ty → Type 0
+IsShape program None = Unit {0}
+IsShape program (Some t) = IsScalar program (ptr t)
+
+-- what points isn't a literal, which has no one type
+abbrev pub IsNoLiteral : Term → Type 0
+IsNoLiteral (Term.Lit v) = ⊥
+IsNoLiteral e = Unit {0}
+
+-- ---- calls
+
+-- arguments of such types, and no type and no text beside them
+pub record TakesArguments (have : List Ty → Type 0) (shape : Option Ty) (format : Option (List ℕ)) (params : List Ty) : Type 0 where
+  pub no_type : shape ≡ None
+  pub no_text : format ≡ None
+  pub args : have params
+
+pub record NamesFunction (program : Program) (have : List Ty → Type 0) (shape : Option Ty) (format : Option (List ℕ)) (f : ℕ) (result : Ty) : Type 0 where
+  pub func : Func
+  pub names : slice_get program.funcs f ≡ Some func
+  pub call_is : TakesArguments have shape format (map (λ (p : Param). p.ty) func.params)
+  pub is : result ≡ func.result
+
+pub record PointsToFunction (have : List Ty → Type 0) (shape : Option Ty) (format : Option (List ℕ)) (points : Ty → Type 0) (result : Ty) : Type 0 where
+  pub params : List Ty
+  pub pointer : points (type.Fun (result ∷ params))
+  pub call_is : TakesArguments have shape format params
+
+pub record AsksService (program : Program) (have : List Ty → Type 0) (handles : Service → Type 0) (shape : Option Ty) (format : Option (List ℕ)) (n : ℕ) (result : Ty) : Type 0 where
+  pub service : Service
+  pub names : service_numbered n ≡ Some service
+  pub signature : Signature
+  pub offers : offered service shape format ≡ Some signature
+  pub args : have signature.params
+  pub handler : handles service
+  pub object : IsShape program shape
+  pub is : result ≡ signature.result
+
+-- service 15 calls back: the function that its first argument points to, with the second
+pub record AsksBack (have : List Ty → Type 0) (shape : Option Ty) (format : Option (List ℕ)) (n : ℕ) (result : Ty) : Type 0 where
+  pub back : n ≡ 15
+  pub no_type : shape ≡ None
+  pub no_text : format ≡ None
+  pub param : Ty
+  pub args : have (type.Fun (result ∷ param ∷ []) ∷ param ∷ [])
+
+-- what is called gives a value of this type, or `void`
+abbrev pub gives_of : Program → (args : List Ty → Type 0) → (handler : Service → Type 0) → (pointer : Ty → Type 0) → Option Ty → Option (List ℕ) → Called → Ty → Type 0
+gives_of program args handler pointer shape format (Called.Direct f) result = NamesFunction program args shape format f result
+gives_of program args handler pointer shape format (Called.Through e) result = PointsToFunction args shape format pointer result
+gives_of program args handler pointer shape format (Called.Service n) result = AsksService program args handler shape format n result ⊎ AsksBack args shape format n result
+
+-- `request_irq` takes the name of a function, and no other value
+abbrev pub NamesHandler : Service → List Term → Type 0
+NamesHandler RequestIrq args = (f : ℕ) × (args ≡ Term.Lit (value.Fn f) ∷ [])
+NamesHandler s args = Unit {0}
+
+abbrev pub HandlerAmong : Terms → Service → Type 0
+HandlerAmong args RequestIrq = (f : ℕ) × (args ≡ Terms.Then (Term.Lit (value.Fn f)) Terms.End)
+HandlerAmong args s = Unit {0}
+
+-- ---- values of calls, choices and steps, which have a scalar type
+
+pub record IsCalled (program : Program) (call : Ty → Type 0) (t u : Ty) : Type 0 where
+  pub gives : call t
+  pub formed : IsScalar program t
+  pub is : u ≡ t
+
+-- 6.5.15
+pub record IsChoice (program : Program) (c a b : Ty → Type 0) (t u : Ty) : Type 0 where
+  pub test : IsCondition c
+  pub one : a t
+  pub other : b t
+  pub formed : IsScalar program t
+  pub is : u ≡ t
+
+-- integers and pointers to objects
+abbrev pub IsStepped : Ty → Type 0
+IsStepped t = ((k : Kind) × (t ≡ int k)) ⊎ ((target : Ty) × (t ≡ ptr target))
+
+-- 6.5.2.4, 6.5.3.1
+pub record IsBump (program : Program) (p : Extent → Type 0) (t u : Ty) : Type 0 where
+  pub object : p (One t)
+  pub steps : IsStepped t
+  pub formed : IsScalar program t
+  pub is : u ≡ t
+
 -- ---- expressions and lvalues of a function with these slots
 
 abbrev mutual
   -- the expression has the type
   pub Has : Program → List Slot → Term → Ty → Type 0
   Has program slots (Term.Lit v) t = Literal program v t
-  Has program slots (Term.Load p) t = IsLoad (Designates program slots p) t
-  Has program slots (Term.Addr p) t = IsAddress p (Designates program slots p) t
-  Has program slots (Term.Decay p) t = IsDecay (Designates program slots p) t
+  Has program slots (Term.Load p) t = IsLoad (Designates program slots p) t × IsScalar program t
+  Has program slots (Term.Addr p) t = IsAddress p (Designates program slots p) t × IsScalar program t
+  Has program slots (Term.Decay p) t = IsDecay (Designates program slots p) t × IsScalar program t
   Has program slots (Term.Neg k e) t = IsUnary k (Has program slots e) t
   Has program slots (Term.Flip k e) t = IsUnary k (Has program slots e) t
   Has program slots (Term.Not e) t = IsNegation (Has program slots e) t
@@ -49,72 +149,58 @@ abbrev mutual
   Has program slots (Term.Conv k e) t = IsConversion k (Has program slots e) t
   Has program slots (Term.ToVoid e) t = IsToVoid (Has program slots e) t
   Has program slots (Term.FromVoid u e) t = IsFromVoid (length program.structs) u (Has program slots e) t
-  Has program slots (Term.Move back p i) t = IsMove (Has program slots p) (Has program slots i) t
+  Has program slots (Term.Move back p i) t = IsMove (Has program slots p) (Has program slots i) t × IsNoLiteral p
   Has program slots (Term.Diff p q) t = IsDifference (Has program slots p) (Has program slots q) t
+  Has program slots (Term.Cond u c a b) t = IsChoice program (Has program slots c) (Has program slots a) (Has program slots b) u t
+  Has program slots (Term.Call u f args shape format) t = IsCalled program (gives_of program (HasEach program slots args) (HandlerAmong args) (PointerHas program slots f) shape format f) u t
+  Has program slots (Term.Bump u up first p) t = IsBump program (Designates program slots p) u t
 
   -- the lvalue designates such an object or array
   pub Designates : Program → List Slot → Lvalue → Extent → Type 0
-  Designates program slots (Lvalue.Slot i) x = IsSlot slots i false x
-  Designates program slots (Lvalue.Object i) x = IsSlot slots i true x
-  Designates program slots (Lvalue.Global g) x = IsGlobal program g x
-  Designates program slots (Lvalue.Deref e) x = IsTarget (Has program slots e) x
-  Designates program slots (Lvalue.Member p f) x = IsMember program (Designates program slots p) f x
-  Designates program slots (Lvalue.Index p e) x = IsElement (Designates program slots p) (Has program slots e) x
+  Designates program slots (Lvalue.Slot i t) x = IsSlot slots i false x × (t ≡ type_in x)
+  Designates program slots (Lvalue.Object i t) x = IsSlot slots i true x × (t ≡ type_in x)
+  Designates program slots (Lvalue.Global g t) x = IsGlobal program g x × (t ≡ type_in x)
+  Designates program slots (Lvalue.Deref e) x = IsTarget (Has program slots e) x × IsNoLiteral e
+  Designates program slots (Lvalue.Member p f t) x = IsMember program (Designates program slots p) f x × (t ≡ type_in x)
+  Designates program slots (Lvalue.Index p e) x = IsElement (Designates program slots p) (Has program slots e) x × IsScalar program (ptr (type_in x))
 
--- ---- calls
+  -- what is called through a pointer has the pointer's type
+  pub PointerHas : Program → List Slot → Called → Ty → Type 0
+  PointerHas program slots (Called.Direct f) t = ⊥
+  PointerHas program slots (Called.Through e) t = Has program slots e t
+  PointerHas program slots (Called.Service n) t = ⊥
 
--- the arguments have the parameters' types, and are as many (6.5.2.2, paragraph 2)
+  -- the arguments have the parameters' types, and are as many (6.5.2.2, paragraph 2)
+  pub HasEach : Program → List Slot → Terms → List Ty → Type 0
+  HasEach program slots Terms.End [] = Unit {0}
+  HasEach program slots Terms.End (t ∷ ts) = ⊥
+  HasEach program slots (Terms.Then e es) [] = ⊥
+  HasEach program slots (Terms.Then e es) (t ∷ ts) = Has program slots e t × HasEach program slots es ts
+
+-- ---- calls as statements
+
 abbrev pub HaveAll : Program → List Slot → List Term → List Ty → Type 0
-HaveAll program slots [] [] = Unit {0}
-HaveAll program slots [] (t ∷ ts) = ⊥
-HaveAll program slots (e ∷ es) [] = ⊥
-HaveAll program slots (e ∷ es) (t ∷ ts) = Has program slots e t × HaveAll program slots es ts
+HaveAll program slots es ts = HasEach program slots (term_list es) ts
 
 -- a call of a function, which names no type and has no text
-pub record CallsFunction (program : Program) (slots : List Slot) (call : CallOf) (params : List Ty) : Type 0 where
-  pub no_type : call.shape ≡ None
-  pub no_text : call.format ≡ None
-  pub args : HaveAll program slots call.args params
+abbrev pub CallsFunction : Program → List Slot → CallOf → (params : List Ty) → Type 0
+CallsFunction program slots call params = TakesArguments (HaveAll program slots call.args) call.shape call.format params
 
-pub record CallsDirectly (program : Program) (slots : List Slot) (call : CallOf) (f : ℕ) (result : Ty) : Type 0 where
-  pub func : Func
-  pub names : slice_get program.funcs f ≡ Some func
-  pub call_is : CallsFunction program slots call (map (λ (p : Param). p.ty) func.params)
-  pub is : result ≡ func.result
+abbrev pub CallsDirectly : Program → List Slot → CallOf → ℕ → Ty → Type 0
+CallsDirectly program slots call f result = NamesFunction program (HaveAll program slots call.args) call.shape call.format f result
 
-pub record CallsThrough (program : Program) (slots : List Slot) (call : CallOf) (e : Term) (result : Ty) : Type 0 where
-  pub params : List Ty
-  pub pointer : Has program slots e (type.Fun (result ∷ params))
-  pub call_is : CallsFunction program slots call params
+abbrev pub CallsThrough : Program → List Slot → CallOf → Term → Ty → Type 0
+CallsThrough program slots call e result = PointsToFunction (HaveAll program slots call.args) call.shape call.format (Has program slots e) result
 
--- `request_irq` takes the name of a function, and no other value
-abbrev pub NamesHandler : Service → List Term → Type 0
-NamesHandler RequestIrq args = (f : ℕ) × (args ≡ Term.Lit (value.Fn f) ∷ [])
-NamesHandler s args = Unit {0}
+abbrev pub CallsService : Program → List Slot → CallOf → ℕ → Ty → Type 0
+CallsService program slots call n result = AsksService program (HaveAll program slots call.args) (λ s. NamesHandler s call.args) call.shape call.format n result
 
-pub record CallsService (program : Program) (slots : List Slot) (call : CallOf) (n : ℕ) (result : Ty) : Type 0 where
-  pub service : Service
-  pub names : service_numbered n ≡ Some service
-  pub signature : Signature
-  pub offers : offered service call.shape call.format ≡ Some signature
-  pub args : HaveAll program slots call.args signature.params
-  pub handler : NamesHandler service call.args
-  pub object : NamesObject program call.shape
-  pub is : result ≡ signature.result
-
--- service 15 calls back: the function that its first argument points to, with the second
-pub record CallsBack (program : Program) (slots : List Slot) (call : CallOf) (n : ℕ) (result : Ty) : Type 0 where
-  pub back : n ≡ 15
-  pub no_type : call.shape ≡ None
-  pub no_text : call.format ≡ None
-  pub param : Ty
-  pub args : HaveAll program slots call.args (type.Fun (result ∷ param ∷ []) ∷ param ∷ [])
+abbrev pub CallsBack : Program → List Slot → CallOf → ℕ → Ty → Type 0
+CallsBack program slots call n result = AsksBack (HaveAll program slots call.args) call.shape call.format n result
 
 -- a call gives a value of this type, or `void`
 abbrev pub gives_by : Called → Program → List Slot → CallOf → Ty → Type 0
-gives_by (Called.Direct f) program slots call result = CallsDirectly program slots call f result
-gives_by (Called.Through e) program slots call result = CallsThrough program slots call e result
-gives_by (Called.Service n) program slots call result = CallsService program slots call n result ⊎ CallsBack program slots call n result
+gives_by f program slots call result = gives_of program (HaveAll program slots call.args) (λ s. NamesHandler s call.args) (PointerHas program slots f) call.shape call.format f result
 
 abbrev pub CallGives : Program → List Slot → CallOf → Ty → Type 0
 CallGives program slots call result = gives_by call.callee program slots call result

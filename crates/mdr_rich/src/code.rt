@@ -3,20 +3,20 @@
 use mdr_core::{BinOp, Boxed, Items, Kind, Name, RelOp, Ty, Value};
 
 /// An lvalue (C99 6.3.2.1). Parameters and locals have the numbers of a function's slots: parameters first, then
-/// locals.
+/// locals. With what has a name stands its type, of an array that of its elements.
 #[cycle(expression)]
 #[derive(Drop)]
 pub enum Lval {
     /// A parameter or local that lies in a slot of its frame.
-    Slot(u32),
+    Slot(u32, Ty),
     /// A parameter or local that is an object of its own.
-    Object(u32),
+    Object(u32, Ty),
     /// A global, by its number.
-    Global(u32),
+    Global(u32, Ty),
     /// What a pointer names (C99 6.5.3.2).
     Deref(Boxed<Expr>),
     /// A field of a struct, by its number (C99 6.5.2.3).
-    Member(Boxed<Lval>, u32),
+    Member(Boxed<Lval>, u32, Ty),
     /// An element of an array (C99 6.5.2.1).
     Index(Boxed<Lval>, Boxed<Expr>),
 }
@@ -55,6 +55,17 @@ pub enum Expr {
     Move(bool, Boxed<Expr>, Boxed<Expr>),
     /// How many elements lie between two pointers (C99 6.5.6).
     Diff(Boxed<Expr>, Boxed<Expr>),
+    /// `c ? a : b`, of the type (C99 6.5.15).
+    Cond(Ty, Boxed<Expr>, Boxed<Expr>, Boxed<Expr>),
+    /// What a call of a function gives, of the type (C99 6.5.2.2).
+    CallDirect(Ty, u32, Items<Expr>),
+    /// What a call through a pointer gives, of the type.
+    CallThrough(Ty, Boxed<Expr>, Items<Expr>),
+    /// What a service gives, of the type; the type that an allocation names, and the text of a `printk`.
+    CallService(Ty, u32, Items<Expr>, Option<Ty>, Option<Name>),
+    /// An object of the type, stepped by one, and whether upwards (C99 6.5.2.4, 6.5.3.1). Its value is the new one where
+    /// the second flag is true, else the old one.
+    Bump(Ty, bool, bool, Lval),
 }
 
 /// What is called.

@@ -1,6 +1,8 @@
 //! The typed code of a source's bodies, which is lowered to that of a program.
 #![tactic(auto)]
 
+mod activity;
 mod code;
 
+pub use activity::{is_active, is_active_place};
 pub use code::{CallForm, Callee, Expr, Lval, Step, Stmt};

@@ -42,9 +42,9 @@ pub file_made : (body : BodyRule) (items : List Item) (program : Program) (f : I
 file_made body items program f = subst (λ (p : Program). IsMadeOf p (parts_behind no_parts f.pieces)) (sym f.is) (made_of f.pieces)
 
 pub types_of_files : TypesOfFilesAreFormed
-types_of_files program rules uses items e ranges steps =
+types_of_files program rules uses items e ranges proper sound =
     let f = file_of _ uses items program e in
-    types_formed program rules items f.pieces f.right (file_made _ items program f) ranges steps
+    types_formed program rules items f.pieces f.right (file_made _ items program f) ranges proper sound
 
 pub files_sound : FilesAreSound
 files_sound program rules uses items e ranges proper sound all table numbers =

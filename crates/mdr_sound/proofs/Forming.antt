@@ -1,5 +1,5 @@
 -- The types that occur in a file are types of objects, whatever stands in the type table.
-use Rattle.std.proofs.Common.{◌≡◌, ℕ, zero, suc, ◌<◌, Bool, true, false, List, [], ◌∷◌, ◌++◌, length, map, Option, Some, None, refl, sym, ap, ◌∙◌, subst, slice_get, ◌⊎◌, inl, inr, arith}
+use Rattle.std.proofs.Common.{◌≡◌, ℕ, zero, suc, ◌<◌, Bool, true, false, List, [], ◌∷◌, length, map, Option, Some, None, refl, sym, ap, ◌∙◌, subst, slice_get, ◌⊎◌, inl, inr, arith}
 use Rattle.std.proofs.lemmas.Option.{slice_get_within}
 use Rattle.mdr_core.specs.declared.code.Stmt.{Stmt}
 use Rattle.mdr_core.specs.declared.program.Field.{Field}
@@ -10,11 +10,10 @@ use Rattle.mdr_core.specs.declared.program.Param.{Param}
 use Rattle.mdr_core.specs.declared.program.Program.{Program}
 use Rattle.mdr_core.specs.declared.program.StructDef.{StructDef}
 use Rattle.mdr_core.specs.declared.types.Ty.{Ty}
-use Rattle.mdr_core.specs.Code.{Code, Codes}
 use Rattle.mdr_core.specs.Folds.{codes_of}
+use Rattle.mdr_core.specs.Typing.{Slot}
 use Rattle.mdr_core.specs.Layout.{fields_or, fields_of}
-use Rattle.mdr_core.specs.TypeText.{Occurs, Allocates, AllocatesIn}
-use Rattle.mdr_core.specs.TypeText as occurs
+use Rattle.mdr_lower.specs.Tables as occurs
 use Rattle.mdr_syntax.specs.declared.tree.Decl.{out-Decl}
 use Rattle.mdr_syntax.specs.declared.tree.Head.{Head}
 use Rattle.mdr_syntax.specs.declared.tree.Item.{Item}
@@ -30,21 +29,22 @@ use Rattle.mdr_check.specs.declared.file.Known.{Known}
 use Rattle.mdr_check.specs.declared.file.Piece.{Piece}
 use Rattle.mdr_check.specs.declared.variable.Variable.{Variable}
 use Rattle.mdr_check.specs.Files.{behind_item, known_behind, first_known, pieces_behind, body_scope}
+use Rattle.mdr_operand.specs.Written.{lines_of}
 use Rattle.mdr_body.specs.Bodies.{body_rule}
 use Rattle.mdr_body.specs.Statements.{Rules}
-use Rattle.mdr_lower.proofs.PlainForms.{lowered_same}
+use Rattle.mdr_lower.specs.Tables.{Occurs}
 use Rattle.mdr_program.specs.declared.parts.Parts.{Parts}
 use Rattle.mdr_program.specs.Parts.{marked, remote, whole, behind_piece, parts_behind, no_parts}
-use Rattle.mdr_program.specs.Occurring.{shape_types, allocated, allocated_in}
-use Rattle.mdr_program.specs.Orders.{IsAmong}
 use Rattle.mdr_sound_code.specs.Knowing.{IsFormed, Knows}
-use Rattle.mdr_sound_bodies.specs.Allocating.{ArePlainFormed, AreFormedSteps}
+use Rattle.mdr_sound_bodies.specs.Allocating.{ArePlainFormed}
+use Rattle.mdr_sound_bodies.specs.Bodies.{IsComposed}
+use Rattle.mdr_sound_bodies.specs.Rules.{AreSoundRules}
 use Rattle.mdr_sound_bodies.specs.Within.{KnowsDeclarations}
-use Rattle.mdr_sound_bodies.proofs.AllocatingLines.{allocations_formed}
-use Rattle.mdr_sound_bodies.proofs.Making.{locals_formed}
+use Rattle.mdr_sound_bodies.specs.Written.{AreNamed, AreProper}
+use Rattle.mdr_sound_bodies.proofs.Making.{allocations_formed, locals_formed}
 use Rattle.mdr_sound.specs.Counting.{Begins}
 use Rattle.mdr_sound.specs.Standing.{Stands}
-use Rattle.mdr_sound.specs.Whole.{IsMadeOf, AreDefinesInRange}
+use Rattle.mdr_sound.specs.Whole.{IsMadeOf, AreDefinesInRange, IsBodyProper, AreBodiesProper}
 use Rattle.mdr_sound.proofs.Along.{IsPlace, GoesOn, along, counted_all}
 use Rattle.mdr_sound.proofs.CountedItems.{last_or_before, ruled}
 use Rattle.mdr_sound.proofs.Declaring.{defined_put, declared_keep}
@@ -53,11 +53,11 @@ use Rattle.mdr_sound.proofs.Headings.{head_result_is, heading_params}
 use Rattle.mdr_sound.proofs.NamedTypes.{AreNumbered, declarator_good}
 use Rattle.mdr_sound.proofs.Objects.{object_sound, tags_numbered}
 use Rattle.mdr_sound.proofs.Outlines.{names_structs}
-use Rattle.mdr_sound.proofs.Passing.{function_structs}
+use Rattle.mdr_sound.proofs.Passing.{function_structs, function_tags}
 use Rattle.mdr_sound.proofs.Reading.{get_map, get_mapped}
 use Rattle.mdr_sound.proofs.Scopes.{IsStanding, standing_goes_on, first_standing, function_stands, global_from}
 use Rattle.mdr_sound.proofs.SoundGlobals.{declared}
-use Rattle.mdr_sound.proofs.Sounding.{put_either, keep_either}
+use Rattle.mdr_sound.proofs.Sounding.{put_either, keep_either, proper_at}
 use Rattle.mdr_sound.proofs.Viewed.{Comes, OfDefine, OfStruct, OfEnum, OfGlobal, OfPrototype, OfFunction, comes_to}
 
 abbrev IsBodyFormed : Program → Option (List Stmt) → Type 0
@@ -77,43 +77,7 @@ marked_formed program objects ps h i p e =
     let m = get_mapped (λ (p : Param). p.ty) ps i p.ty also in
     subst (IsFormed program) m.made (h i m.item m.names)
 
-either : {A B C D : Type 0} → (A → C) → (B → D) → A ⊎ B → C ⊎ D
-either f g (inl a) = inl (f a)
-either f g (inr b) = inr (g b)
-
--- what is among one of two lists
-in_parts : (t : Ty) (ts us : List Ty) → IsAmong t ts ⊎ IsAmong t us → IsAmong t (ts ++ us)
-in_parts t [] us (inl m) = absurd m
-in_parts t [] us (inr m) = m
-in_parts t (x ∷ ts) us (inl (inl e)) = inl e
-in_parts t (x ∷ ts) us (inl (inr m)) = inr (in_parts t ts us (inl m))
-in_parts t (x ∷ ts) us (inr m) = inr (in_parts t ts us (inr m))
-
-shape_among : (t : Ty) (shape : Option Ty) → shape ≡ Some t → IsAmong t (shape_types shape)
-shape_among t None e = absurd cc
-shape_among t (Some u) e = inl (same e)
-  where
-    same : {a b : Ty} → Some a ≡ Some b → a ≡ b
-    same q = cc
-
--- the types that code allocates
-mutual
-  allocated_among : (t : Ty) (c : Code) → Allocates t c → IsAmong t (allocated c)
-  allocated_among t (Code.Declare n i) h = h
-  allocated_among t (Code.Text n i bytes) h = h
-  allocated_among t (Code.Assign n p e) h = h
-  allocated_among t (Code.Call n goal call) h = shape_among t call.shape h
-  allocated_among t (Code.If n e one other) h = in_parts t (allocated_in one) (allocated_in other) (either (allocated_in_among t one) (allocated_in_among t other) h)
-  allocated_among t (Code.Loop n e step body) h = in_parts t (allocated_in step) (allocated_in body) (either (allocated_in_among t step) (allocated_in_among t body) h)
-  allocated_among t (Code.Block body) h = allocated_in_among t body h
-  allocated_among t (Code.Return n e) h = h
-  allocated_among t (Code.Jump n way) h = h
-
-  allocated_in_among : (t : Ty) (cs : Codes) → AllocatesIn t cs → IsAmong t (allocated_in cs)
-  allocated_in_among t Codes.End h = h
-  allocated_in_among t (Codes.Then c cs) h = in_parts t (allocated c) (allocated_in cs) (either (allocated_among t c) (allocated_in_among t cs) h)
-
-module _ (program : Program) (rules : Rules) (items : List Item) (xs : List Piece) (right : pieces_behind (body_rule rules) (first_known items) [] items ≡ Right xs) (made : IsMadeOf program (parts_behind no_parts xs)) (ranges : AreDefinesInRange items) (steps : (scope : Scope) → Knows program scope → AreFormedSteps program scope rules) where
+module _ (program : Program) (rules : Rules) (items : List Item) (xs : List Piece) (right : pieces_behind (body_rule rules) (first_known items) [] items ≡ Right xs) (made : IsMadeOf program (parts_behind no_parts xs)) (ranges : AreDefinesInRange items) (proper : AreBodiesProper items) (sound_rules : (scope : Scope) → Knows program scope → (slots : List Slot) → AreSoundRules program slots scope rules) where
   abbrev Whole : Parts
   Whole = parts_behind no_parts xs
 
@@ -137,6 +101,10 @@ module _ (program : Program) (rules : Rules) (items : List Item) (xs : List Piec
   scope_structs : (known : Known) (h : Head) → (body_scope known h).structs ≡ known.scope.structs
   unfolding behind_function
   scope_structs known h = function_structs (is_taken known.scope h.name) known.scope (length known.functions) h
+
+  scope_tags : (known : Known) (h : Head) → known.scope.tags ≡ (body_scope known h).tags
+  unfolding behind_function
+  scope_tags known h = function_tags (is_taken known.scope h.name) known.scope (length known.functions) h
 
   knows_there : (known : Known) (ps : Parts) (scope : Scope) → AtRest known ps → Stands program scope → scope.structs ≡ known.scope.structs → KnowsDeclarations program scope
   knows_there known ps scope q st same =
@@ -165,14 +133,16 @@ module _ (program : Program) (rules : Rules) (items : List Item) (xs : List Piec
     body = tt;
   }
 
-  body_formed : (before : List Item) (known : Known) (ps : Parts) (h : Head) (is_critical : Bool) (nodes : List Node) (g : Heading) (body : Body) → function_declared known.scope known.functions before h true ≡ Right g → body_rule rules (body_scope known h) h nodes ≡ Right body → Begins (functions_behind known.scope known.functions h) Last.functions → AtRest known ps → AreNumbered known.scope (length program.structs) → IsFormedFunc program (whole h.name is_critical g body)
-  body_formed before known ps h is_critical nodes g body e f b q low =
+  body_formed : (before : List Item) (known : Known) (ps : Parts) (h : Head) (is_critical : Bool) (nodes : List Node) (g : Heading) (body : Body) → function_declared known.scope known.functions before h true ≡ Right g → body_rule rules (body_scope known h) h nodes ≡ Right body → AreNamed h.params × AreProper (lines_of nodes) → Begins (functions_behind known.scope known.functions h) Last.functions → AtRest known ps → AreNumbered known.scope (length program.structs) → IsFormedFunc program (whole h.name is_critical g body)
+  body_formed before known ps h is_critical nodes g body e f written b q low =
       let scope = body_scope known h in
       let st = scope_stands before known ps h true g e b q low in
+      let declarations = knows_there known ps scope q st (scope_structs known h) in
+      let composed : IsComposed rules scope h nodes g body = record { front = known.scope; tags = scope_tags known h; heading_is = (ruled known.scope known.functions before h true g e).right; body_is = f; named = written.0; proper = written.1 } in
       record {
         params = marked_formed program body.objects g.params (heading_formed before known ps h true g e b q low);
-        locals = locals_formed program rules scope h nodes body (knows_there known ps scope q st (scope_structs known h)) f;
-        body = subst (ArePlainFormed program) (sym (lowered_same body.statements)) ((allocations_formed program scope rules (steps scope st.knows)).bodies h nodes body f);
+        locals = locals_formed program rules scope h nodes g body declarations (sound_rules scope st.knows) composed;
+        body = allocations_formed program rules scope h nodes g body declarations (sound_rules scope st.knows) composed;
       }
 
   one_formed : (fs : List Func) (f g : Func) → ((i : ℕ) (f : Func) → slice_get fs i ≡ Some f → IsFormedFunc program f) → IsFormedFunc program f → (i : ℕ) → (slice_get fs i ≡ Some g) ⊎ (f ≡ g) → IsFormedFunc program g
@@ -183,28 +153,29 @@ module _ (program : Program) (rules : Rules) (items : List Item) (xs : List Piec
   one_global vs v w h own g (inl old) = h g w old
   one_global vs v w h own g (inr new) = subst (λ (u : Variable). IsFormed program u.object.ty) new own
 
-  formed_behind : (before : List Item) (known : Known) (ps : Parts) (what : ItemWhat) (x : Piece) → Comes (body_rule rules) items before known what x → Begins (behind_item known what).functions Last.functions → AreNumbered known.scope (length program.structs) → AtRest (behind_item known what) (behind_piece ps x) → AreFormedParts known ps → AreFormedParts (behind_item known what) (behind_piece ps x)
-  formed_behind before known ps _ _ (OfDefine name is_negative n k) begins low rests q = record { rests = rests; globals = q.globals; funcs = q.funcs }
-  formed_behind before known ps _ _ (OfStruct at name ds fields) begins low rests q = record { rests = rests; globals = q.globals; funcs = q.funcs }
-  formed_behind before known ps _ _ (OfEnum es) begins low rests q = record { rests = rests; globals = q.globals; funcs = q.funcs }
-  formed_behind before known ps _ _ (OfGlobal d init v e) begins low rests q =
+  formed_behind : (before : List Item) (known : Known) (ps : Parts) (what : ItemWhat) (x : Piece) → Comes (body_rule rules) items before known what x → IsBodyProper what → Begins (behind_item known what).functions Last.functions → AreNumbered known.scope (length program.structs) → AtRest (behind_item known what) (behind_piece ps x) → AreFormedParts known ps → AreFormedParts (behind_item known what) (behind_piece ps x)
+  formed_behind before known ps _ _ (OfDefine name is_negative n k) written begins low rests q = record { rests = rests; globals = q.globals; funcs = q.funcs }
+  formed_behind before known ps _ _ (OfStruct at name ds fields) written begins low rests q = record { rests = rests; globals = q.globals; funcs = q.funcs }
+  formed_behind before known ps _ _ (OfEnum es) written begins low rests q = record { rests = rests; globals = q.globals; funcs = q.funcs }
+  formed_behind before known ps _ _ (OfGlobal d init v e) written begins low rests q =
       let own = (object_sound program known.scope (out-Decl d).place d v.object (q.rests).stands (declared known.scope known.globals d init v e).object).sort in
       record { rests = rests; globals = λ g w n. one_global ps.variables v w q.globals own g (last_or_before ps.variables v g w n); funcs = q.funcs }
-  formed_behind before known ps _ _ (OfPrototype h is_remote g e) begins low rests q = record {
+  formed_behind before known ps _ _ (OfPrototype h is_remote g e) written begins low rests q = record {
     rests = rests;
     globals = q.globals;
     funcs = λ i f n. one_formed ps.funcs (remote h.name g) f q.funcs (prototype_formed before known ps h g e begins q.rests low) i (keep_either ps.funcs (remote h.name g) f i (ap (λ fs. slice_get fs i) (sym (declared_keep ps.funcs (remote h.name g))) ∙ n));
   }
-  formed_behind before known ps _ _ (OfFunction h is_critical nodes g b e f) begins low rests q = record {
+  formed_behind before known ps _ _ (OfFunction h is_critical nodes g b e f) written begins low rests q = record {
     rests = rests;
     globals = q.globals;
-    funcs = λ i k n. one_formed ps.funcs (whole h.name is_critical g b) k q.funcs (body_formed before known ps h is_critical nodes g b e f begins q.rests low) i (put_either ps.funcs (whole h.name is_critical g b) k i (ap (λ fs. slice_get fs i) (sym (defined_put ps.funcs (whole h.name is_critical g b))) ∙ n));
+    funcs = λ i k n. one_formed ps.funcs (whole h.name is_critical g b) k q.funcs (body_formed before known ps h is_critical nodes g b e f written begins q.rests low) i (put_either ps.funcs (whole h.name is_critical g b) k i (ap (λ fs. slice_get fs i) (sym (defined_put ps.funcs (whole h.name is_critical g b))) ∙ n));
   }
 
   formed_goes_on : GoesOn (body_rule rules) items Whole Last.functions AreFormedParts
   formed_goes_on = record {
     behind = λ before known i x ps place q.
         formed_behind before known ps i.what x (comes_to (body_rule rules) items before known i.place i.what x place.one)
+        (proper_at before (place.begins).more i (subst AreBodiesProper (place.begins).whole proper))
         place.declared
         (names_structs program (body_rule rules) items xs right made known.scope (place.at).tags)
         ((standing_goes_on program (body_rule rules) items xs right made ranges).behind before known i x ps place q.rests)
@@ -245,5 +216,5 @@ module _ (program : Program) (rules : Rules) (items : List Item) (xs : List Piec
       let v = global_from program.types Whole.structs Whole.variables Whole.variables g def (ap (λ gs. slice_get gs g) (sym made.globals) ∙ names) in
       subst (IsFormed program) (ap (λ (d : GlobalDef). d.ty) v.2 ∙ is) (all_formed.globals g v.0 v.1)
   types_formed t (occurs.OfParam f i func p names e is) = subst (IsFormed program) is ((func_at f func names).params i p e)
-  types_formed t (occurs.OfLocal f i func l names e is) = subst (IsFormed program) is ((func_at f func names).locals i l e)
-  types_formed t (occurs.OfAllocation f func body names is m) = body_at f func body names is t (allocated_in_among t (codes_of body) m)
+  types_formed t (occurs.OfLocal f i func l names e counted is) = subst (IsFormed program) is ((func_at f func names).locals i l e)
+  types_formed t (occurs.OfAllocation f func body names is m) = body_at f func body names is t m

@@ -18,7 +18,6 @@ use Rattle.mdr_faults.specs.Alike.{is_alike}
 use Rattle.mdr_headings.specs.declared.body.Body.{Body}
 use Rattle.mdr_headings.specs.declared.head.Heading.{Heading}
 use Rattle.mdr_headings.specs.Functions.{is_same_length, is_same_ann, is_same_param, are_same_params, is_same_heading}
-use Rattle.mdr_lower.specs.Lowering.{lowered}
 use Rattle.mdr_program.specs.Parts.{flagged, marked, remote, whole}
 use Rattle.mdr_sound_code.proofs.Alike.{left_of, right_of, alike_same}
 use Rattle.mdr_sound.specs.Declared.{IsSoundHeading}
@@ -78,7 +77,7 @@ param_as program siblings others p q same type note h = record {
 
 -- ---- functions
 
-pub whole_sound : (program : Program) (name : List ℕ) (is_critical : Bool) (x : Heading) (b : Body) → IsSoundHeading program x → ((i : ℕ) (l : Local) → slice_get b.locals i ≡ Some l → IsSoundLocal program l) → HasTypedBody program (whole name is_critical x b) (Some (lowered b.statements)) → IsSoundFunc program (whole name is_critical x b)
+pub whole_sound : (program : Program) (name : List ℕ) (is_critical : Bool) (x : Heading) (b : Body) → IsSoundHeading program x → ((i : ℕ) (l : Local) → slice_get (whole name is_critical x b).locals i ≡ Some l → IsSoundLocal program l) → HasTypedBody program (whole name is_critical x b) (whole name is_critical x b).body → IsSoundFunc program (whole name is_critical x b)
 whole_sound program name is_critical x b h locals body = record {
   result = h.result;
   annotation = subst (λ (ss : List Sibling). Annotates program ss x.result x.ann) (sym (marked_siblings b.objects 0 x.params)) h.annotation;

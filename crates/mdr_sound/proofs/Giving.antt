@@ -58,7 +58,7 @@ module _ (program : Program) (slots : List Slot) (scope : Scope) (names : List L
       let as_given = call_as_right p t c a.value a.right in
       subst (IsSoundStep program slots result) (same_right _ _ a.made)
       (subst (λ form. IsSoundStep program slots result (step.Call (Some l) form)) as_given.same
-      (call_sound program slots result (Some l) c.form (λ settled. record { type = t; given = c.result; scalar = scalar_is _ t sort; object = object; call_gives = h.gives settled; becomes = as_given.becomes })))
+      (call_sound program slots result (Some l) c.form (record { type = t; given = c.result; scalar = scalar_is _ t sort; object = object; call_gives = h.gives; becomes = as_given.becomes })))
 
   -- ---- to the caller
 
@@ -73,4 +73,4 @@ module _ (program : Program) (slots : List Slot) (scope : Scope) (names : List L
       let as_given = call_as_right p result c a.value a.right in
       subst (IsSoundStep program slots result) (same_right _ _ a.made)
       (subst (λ form. IsSoundStep program slots result (step.ReturnCall form)) as_given.same
-      (return_call_sound program slots result c.form (λ settled. record { given = c.result; scalar = scalar_is _ result sort; call_gives = h.gives settled; becomes = as_given.becomes })))
+      (return_call_sound program slots result c.form (record { given = c.result; scalar = scalar_is _ result sort; call_gives = h.gives; becomes = as_given.becomes })))

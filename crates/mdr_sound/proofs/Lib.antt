@@ -38,12 +38,10 @@ pub mod Initials
 pub mod BehindNames
 pub mod SoundGlobals
 pub mod BehindStructs
-pub mod Parts
 pub mod Stepping
 pub mod Standing
 pub mod Giving
 pub mod Stating
-pub mod Allocating
 pub mod Numbering
 pub mod Identifying
 pub mod SourceForming

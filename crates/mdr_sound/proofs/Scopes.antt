@@ -15,7 +15,7 @@ use Rattle.mdr_core.specs.Layout.{fields_of, struct_cells}
 use Rattle.mdr_core.specs.Sound.{IsSoundStruct}
 use Rattle.mdr_core.specs.Typing.{function_type}
 use Rattle.mdr_core.specs.Types.{HasNumber}
-use Rattle.mdr_core.specs.TypeText.{OfField}
+use Rattle.mdr_lower.specs.Tables.{OfField}
 use Rattle.mdr_syntax.specs.declared.tree.Decl.{Decl, out-Decl}
 use Rattle.mdr_syntax.specs.declared.tree.Head.{Head}
 use Rattle.mdr_syntax.specs.declared.tree.Init.{Init}

@@ -1,5 +1,5 @@
 -- Globals and functions of a file are sound, each in its place.
-use Rattle.std.proofs.Common.{◌≡◌, ℕ, zero, suc, ◌<◌, ◌≤◌, Bool, true, false, cond, List, [], ◌∷◌, ◌++◌, length, map, Option, Some, None, refl, sym, ap, ◌∙◌, subst, slice_get, arith, ◌⊎◌, inl, inr}
+use Rattle.std.proofs.Common.{◌≡◌, ℕ, zero, suc, ◌<◌, ◌≤◌, ◌==◌, Bool, true, false, not, ◌||◌, cond, List, [], ◌∷◌, ◌++◌, length, map, Option, Some, None, refl, sym, ap, ◌∙◌, subst, slice_get, arith, ◌⊎◌, inl, inr}
 use Rattle.std.specs.Str.{bytes_eq}
 use Rattle.std.proofs.lemmas.Option.{slice_get_within}
 use Rattle.mdr_core.specs.declared.code.Stmt.{Stmt}
@@ -16,7 +16,7 @@ use Rattle.mdr_core.specs.Layout.{AreSmall, AreFew, fields_or, fields_of, field_
 use Rattle.mdr_core.specs.Sound.{IsCount, IsSoundStruct, IsSoundGlobal, IsSoundFunc, IsSound, IsTable, HasFewNumbers}
 use Rattle.mdr_core.specs.Typing.{Slot}
 use Rattle.mdr_core.specs.Types.{HasNumber}
-use Rattle.mdr_core.specs.TypeText as occurs
+use Rattle.mdr_lower.specs.Tables as occurs
 use Rattle.mdr_syntax.specs.declared.tree.Decl.{Decl}
 use Rattle.mdr_syntax.specs.declared.tree.Head.{Head}
 use Rattle.mdr_syntax.specs.declared.tree.Init.{Init}
@@ -39,14 +39,13 @@ use Rattle.mdr_body.specs.Statements.{Rules}
 use Rattle.mdr_program.specs.declared.parts.Parts.{Parts}
 use Rattle.mdr_program.specs.Parts.{marked, remote, whole, behind_piece, parts_behind, no_parts}
 use Rattle.mdr_program.specs.Programs.{global_def, global_defs}
-use Rattle.mdr_program.proofs.Happening.{allocates_in}
 use Rattle.mdr_sound_code.specs.Knowing.{Knows}
 use Rattle.mdr_sound_bodies.specs.Grounded.{ArePlainGrounded}
 use Rattle.mdr_sound_bodies.specs.Rules.{AreSoundRules}
 use Rattle.mdr_sound_bodies.specs.Within.{KnowsDeclarations}
 use Rattle.mdr_sound_bodies.specs.Written.{AreNamed, AreProper}
-use Rattle.mdr_sound_bodies.specs.Bodies.{IsMade}
-use Rattle.mdr_sound_bodies.proofs.Making.{body_grounded, made_sound}
+use Rattle.mdr_sound_bodies.specs.Bodies.{IsMade, made_work}
+use Rattle.mdr_sound_bodies.proofs.Making.{made_sound}
 use Rattle.mdr_sound.specs.Counting.{Begins}
 use Rattle.mdr_sound.specs.Declared.{IsSoundHeading}
 use Rattle.mdr_sound.specs.Globals.{HasVariables, StandsAmong}
@@ -97,6 +96,11 @@ keep_either (h ∷ hs) f g i e = by (bytes_eq h.name f.name) i e (λ j. keep_eit
 pub proper_at : (before more : List Item) (i : Item) → AreBodiesProper ((before ++ i ∷ []) ++ more) → IsBodyProper i.what
 proper_at [] more i all = all.0
 proper_at (b ∷ bs) more i all = proper_at bs more i all.1
+
+pub get_front : {A : Type 0} (xs ys : List A) (i : ℕ) (x : A) → slice_get xs i ≡ Some x → slice_get (xs ++ ys) i ≡ Some x
+get_front [] ys i x e = absurd cc
+get_front (z ∷ zs) ys zero x e = e
+get_front (z ∷ zs) ys (suc i) x e = get_front zs ys i x e
 
 -- ---- a function's types in the table
 
@@ -222,7 +226,11 @@ module _ (program : Program) (rules : Rules) (items : List Item) (xs : List Piec
       let scope = body_scope known h in
       let st = function_stands program (body_rule rules) items xs right made ranges known h headed q.stands low in
       let declarations = knows_declarations known ps scope q st (body_scope_structs known h) in
-      let is_made : IsMade program rules scope h nodes g b = record { front = known.scope; tags = body_scope_tags known h; heading_is = headed.listed; body_is = f; named = written.0; proper = written.1; in_table = placed.locals; grounded = body_grounded program b.statements placed.body } in
+      let is_made : IsMade program rules scope h nodes g b = record {
+        composed = record { front = known.scope; tags = body_scope_tags known h; heading_is = headed.listed; body_is = f; named = written.0; proper = written.1 };
+        in_table = λ i l e. placed.locals i l (get_front b.locals (made_work g b).slots i l e);
+        grounded = placed.body;
+      } in
       let sound = made_sound program rules scope h nodes g b h.name is_critical declarations (sound_rules scope st.knows) is_made in
       whole_sound program h.name is_critical g b (head_sound known ps h headed q low (head_params program b.objects g.params placed.params)) sound.locals sound.body
 
@@ -284,13 +292,13 @@ module _ (program : Program) (rules : Rules) (items : List Item) (xs : List Piec
   pub func_placed : (f : ℕ) (func : Func) → slice_get program.funcs f ≡ Some func → IsPlaced program func
   func_placed f func e = record {
     params = λ i p n. all p.ty (occurs.OfParam f i func p e n refl);
-    locals = λ i l n object. all l.ty (occurs.OfLocal f i func l e n refl);
+    locals = λ i l n object. all l.ty (occurs.OfLocal f i func l e n (ap (λ (o : Bool). o || not (length l.name == 0)) object) refl);
     body = by func.body refl;
   }
     where
       by : (o : Option (List Stmt)) → func.body ≡ o → IsBodyGrounded program o
       by None q = tt
-      by (Some body) q = record { types = λ t m. all t (occurs.OfAllocation f func body e q (allocates_in t (codes_of body) m)) }
+      by (Some body) q = record { types = λ t m. all t (occurs.OfAllocation f func body e q m) }
 
   funcs_sound : (f : ℕ) (func : Func) → slice_get program.funcs f ≡ Some func → IsSoundFunc program func
   funcs_sound f func e = all_sound.funcs f func (ap (λ fs. slice_get fs f) (sym made.funcs) ∙ e) (func_placed f func e)

@@ -5,7 +5,6 @@ use Rattle.mdr_core.specs.declared.program.Program.{Program}
 use Rattle.mdr_core.specs.declared.types.Ty.{Ty}
 use Rattle.mdr_core.specs.Sound.{IsObjectSort}
 use Rattle.mdr_core.specs.Types.{HasNumber, sort_of}
-use Rattle.mdr_core.specs.TypeText.{Occurs}
 use Rattle.mdr_syntax.specs.Bytes.{is_name_byte}
 use Rattle.mdr_syntax.specs.declared.tree.Item.{Item}
 use Rattle.mdr_syntax.specs.declared.tree.ItemWhat.{ItemWhat}
@@ -14,6 +13,7 @@ use Rattle.mdr_faults.specs.Faults.{Right}
 use Rattle.mdr_check.specs.declared.file.Piece.{Piece}
 use Rattle.mdr_check.specs.Uses.{UseRule}
 use Rattle.mdr_body.specs.Bodies.{body_rule}
+use Rattle.mdr_lower.specs.Tables.{Occurs}
 use Rattle.mdr_program.specs.Parts.{parts_of}
 use Rattle.mdr_program.specs.Programs.{made, program_of, typed}
 use Rattle.mdr_typing.specs.Profile.{profile_rules}
@@ -27,7 +27,6 @@ use Rattle.mdr_sound.proofs.Filed.{file_of, types_of_files, files_sound}
 use Rattle.mdr_sound.proofs.Sorts.{not_wrong}
 use Rattle.mdr_sound.specs.ProperSources.{IsProperItem, AreProperItems}
 use Rattle.mdr_sound.proofs.Itemising.{bytes_proper}
-use Rattle.mdr_sound.proofs.Allocating.{profile_formed}
 use Rattle.mdr_sound.proofs.Stating.{profile_sound}
 use Rattle.mdr_sound.specs.Sources.{SourcesHaveOrderedTables, SourcesAreSound}
 
@@ -83,7 +82,7 @@ words_of items h = record { passes = λ i x name at e. word_at items i x name h 
 
 module _ (program : Program) (uses : UseRule) (items : List Item) (right : typed (body_rule profile_rules) uses items ≡ Right program) (proper : AreProperItems items) where
   formed : (t : Ty) → Occurs program t → IsObjectSort (sort_of (length program.structs) t)
-  formed = types_of_files program profile_rules uses items right (ranges_of items proper) (profile_formed program)
+  formed = types_of_files program profile_rules uses items right (ranges_of items proper) (bodies_of items proper) (λ scope known slots. profile_sound program slots scope known)
 
   formed_pointers : HasFormedPointers program
   formed_pointers = record { formed = λ t occurs pointer. record { formed = λ wrong. not_wrong (subst IsObjectSort wrong (formed t occurs)) } }

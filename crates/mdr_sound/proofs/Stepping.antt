@@ -1,5 +1,5 @@
 -- Steps keep to the rules of sound programs, by their forms.
-use Rattle.std.proofs.Common.{◌≡◌, ℕ, List, Option, Some, refl, sym, ◌∙◌, subst, inl}
+use Rattle.std.proofs.Common.{◌≡◌, ℕ, List, Option, Some, refl, sym, ◌∙◌, subst}
 use Rattle.mdr_rich.specs.declared.code.CallForm.{CallForm}
 use Rattle.mdr_rich.specs.declared.code.Expr.{Expr}
 use Rattle.mdr_rich.specs.declared.code.Lval.{Lval}
@@ -9,31 +9,12 @@ use Rattle.mdr_core.specs.declared.program.Program.{Program}
 use Rattle.mdr_core.specs.declared.types.Ty.{Ty}
 use Rattle.mdr_rich.specs.Code.{Goal, Code}
 use Rattle.mdr_rich.specs.Folds.{code_of, call_of, goal_of, lvalue_of, term_of}
-use Rattle.mdr_core.specs.Types.{HasNumber}
 use Rattle.mdr_core.specs.Typing.{Slot}
-use Rattle.mdr_rich.specs.Typing.{CallGives, GoesTo, IsAssignment, IsTyped, Returns}
+use Rattle.mdr_rich.specs.Typing.{GoesTo, IsAssignment, IsTyped, Returns}
 use Rattle.mdr_rich.proofs.Coded.{code_is, assign_is, call_is, return_is, return_call_is}
 use Rattle.mdr_body.specs.Statements.{stmt}
-use Rattle.mdr_program.specs.Occurring.{shape_types}
-use Rattle.mdr_program.specs.Orders.{IsAmong}
-use Rattle.mdr_sound_bodies.specs.Grounded.{IsGrounded}
 use Rattle.mdr_sound_bodies.specs.Rules.{IsSoundStep}
 use Rattle.mdr_sound_bodies.proofs.Stating.{step_is}
-
--- ---- what a call asks of the program
-
--- the type that it names is in the table
-pub record IsSettled (program : Program) (form : CallForm) : Type 0 where
-  pub in_table : (t : Ty) → form.shape ≡ Some t → HasNumber program t
-
-pub settled : (program : Program) (n : ℕ) (goal : Goal) (form : CallForm) → IsGrounded program (Code.Call n goal (call_of form)) → IsSettled program form
-settled program n goal form g = record { in_table = λ t is. g.types t (subst (λ (o : Option Ty). IsAmong t (shape_types o)) (sym is) (inl refl)) }
-
--- what is called takes these arguments and gives a value of the type, if the call is settled
-pub record Calls (program : Program) (slots : List Slot) (form : CallForm) (given : Ty) : Type 0 where
-  pub gives : IsSettled program form → CallGives program slots (call_of form) given
-
--- ---- steps
 
 module _ (program : Program) (slots : List Slot) (result : Ty) where
   pub assign_sound : (l : Lval) (e : Expr) → IsAssignment program slots (lvalue_of l) (term_of e) → IsSoundStep program slots result (step.Assign l e)
@@ -46,13 +27,12 @@ module _ (program : Program) (slots : List Slot) (result : Ty) where
       step_is program slots result (step.Return (Some e)) (λ n. Code.Return n (Some (term_of e))) (λ n. code_is (stmt n (step.Return (Some e))) (step.Return (Some e)) refl ∙ return_is n (Some e))
       (λ n b some. record { numbered = some; right = h })
 
-  -- a step whose code is a call is right where the call is settled
-  by_call : (s : Step) (goal : Goal) (form : CallForm) → ((n : ℕ) → code_of (stmt n s) ≡ Code.Call n goal (call_of form)) → (IsSettled program form → GoesTo program slots result goal (call_of form)) → IsSoundStep program slots result s
-  by_call s goal form is h n b some g =
-      subst (IsTyped program slots result b) (sym (is n)) (record { numbered = some; right = h (settled program n goal form (subst (IsGrounded program) (is n) g)) })
+  -- a step whose code is a call
+  by_call : (s : Step) (goal : Goal) (form : CallForm) → ((n : ℕ) → code_of (stmt n s) ≡ Code.Call n goal (call_of form)) → GoesTo program slots result goal (call_of form) → IsSoundStep program slots result s
+  by_call s goal form is h n b some = subst (IsTyped program slots result b) (sym (is n)) (record { numbered = some; right = h })
 
-  pub call_sound : (target : Option Lval) (form : CallForm) → (IsSettled program form → GoesTo program slots result (goal_of target) (call_of form)) → IsSoundStep program slots result (step.Call target form)
+  pub call_sound : (target : Option Lval) (form : CallForm) → GoesTo program slots result (goal_of target) (call_of form) → IsSoundStep program slots result (step.Call target form)
   call_sound target form h = by_call (step.Call target form) (goal_of target) form (λ n. code_is (stmt n (step.Call target form)) (step.Call target form) refl ∙ call_is n target form) h
 
-  pub return_call_sound : (form : CallForm) → (IsSettled program form → GoesTo program slots result Goal.Back (call_of form)) → IsSoundStep program slots result (step.ReturnCall form)
+  pub return_call_sound : (form : CallForm) → GoesTo program slots result Goal.Back (call_of form) → IsSoundStep program slots result (step.ReturnCall form)
   return_call_sound form h = by_call (step.ReturnCall form) Goal.Back form (λ n. code_is (stmt n (step.ReturnCall form)) (step.ReturnCall form) refl ∙ return_call_is n form) h

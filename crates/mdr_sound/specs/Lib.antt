@@ -8,5 +8,4 @@ pub mod Globals
 pub mod GlobalLaws
 pub mod FileLaws
 pub mod Laws
-pub mod Allocating
 pub mod ProperSources

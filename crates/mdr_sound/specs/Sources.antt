@@ -3,7 +3,6 @@
 use Rattle.std.specs.Prelude.{◌≡◌, ℕ, Bool, List, Ok}
 use Rattle.mdr_core.specs.declared.program.Program.{Program}
 use Rattle.mdr_core.specs.Sound.{HasFewNumbers, IsSound}
-use Rattle.mdr_core.specs.TypeText.{IsOrderedTable}
 use Rattle.mdr_syntax.specs.declared.token.Token.{Token}
 use Rattle.mdr_syntax.specs.declared.tree.Tree.{Tree}
 use Rattle.mdr_syntax.specs.Tokens.{tokens_of}
@@ -11,6 +10,7 @@ use Rattle.mdr_grammar.specs.Grammar.{Reads}
 use Rattle.mdr_faults.specs.Faults.{Right}
 use Rattle.mdr_check.specs.Uses.{UseRule}
 use Rattle.mdr_body.specs.Bodies.{body_rule}
+use Rattle.mdr_lower.specs.Tables.{IsOrderedTable}
 use Rattle.mdr_program.specs.Programs.{typed}
 use Rattle.mdr_typing.specs.Profile.{profile_rules}
 

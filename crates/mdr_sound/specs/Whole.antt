@@ -5,12 +5,12 @@ use Rattle.mdr_core.specs.declared.program.Program.{Program}
 use Rattle.mdr_core.specs.declared.types.Ty.{Ty}
 use Rattle.mdr_core.specs.Kinds.{is_in_range}
 use Rattle.mdr_core.specs.Types.{HasNumber}
-use Rattle.mdr_core.specs.TypeText.{Occurs}
 use Rattle.mdr_syntax.specs.declared.tree.Item.{Item}
 use Rattle.mdr_syntax.specs.declared.tree.ItemWhat.{ItemWhat}
 use Rattle.mdr_syntax.specs.declared.tree.ItemWhat.TheVariants as item
 use Rattle.mdr_faults.specs.Declarations.{number_constant}
 use Rattle.mdr_operand.specs.Written.{lines_of}
+use Rattle.mdr_lower.specs.Tables.{Occurs}
 use Rattle.mdr_sound_bodies.specs.Written.{AreNamed, AreProper}
 use Rattle.mdr_program.specs.declared.parts.Parts.{Parts}
 use Rattle.mdr_program.specs.Programs.{global_defs}

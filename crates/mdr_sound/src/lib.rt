@@ -16,4 +16,4 @@ pub use file_laws::{files_are_sound, types_of_files_are_formed};
 pub use global_laws::globals_are_sound;
 pub use laws::{sources_are_sound, sources_have_ordered_tables};
 pub use source_laws::{read_sources_are_proper, sources_are_proper};
-pub use typing_laws::{profile_rules_are_sound, profile_steps_are_formed};
+pub use typing_laws::profile_rules_are_sound;

@@ -1,15 +1,9 @@
 // What holds of the rules of the profile.
 
-ghost use Rattle.mdr_sound.specs.Allocating.{ProfileStepsAreFormed};
 ghost use Rattle.mdr_sound.specs.Laws.{ProfileRulesAreSound};
 
 /// What stands in statements has the types that the rules of sound programs give it, and so has each step that is made of
 /// it.
 pub fn profile_rules_are_sound()
     ensures { ProfileRulesAreSound }
-{}
-
-/// The types that the steps' allocations name are types of objects, whatever stands in the type table.
-pub fn profile_steps_are_formed()
-    ensures { ProfileStepsAreFormed }
 {}

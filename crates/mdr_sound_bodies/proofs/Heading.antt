@@ -18,7 +18,6 @@ use Rattle.mdr_body.specs.Locals.{with_local, takes, is_taken}
 use Rattle.mdr_body.specs.Addresses.{perhaps_takes, takes_at, takes_along}
 use Rattle.mdr_body.specs.Statements.{Rules, appended, pair, taken_behind, head_taken, simple_made, simple_behind, heads_made, heads_behind, steps_made, steps_behind}
 use Rattle.mdr_sound_code.proofs.Rights.{same_right, both_right}
-use Rattle.mdr_sound_bodies.specs.Grounded.{AreGrounded}
 use Rattle.mdr_sound_bodies.specs.Rules.{AreSoundRules}
 use Rattle.mdr_sound_bodies.specs.Written.{IsStatement, AreStatements, IsProper, AreProper}
 use Rattle.mdr_sound_bodies.specs.Within.{KnowsDeclarations, AreDeclared, in_front, takes_behind, IsTold, IsHere}
@@ -26,7 +25,7 @@ use Rattle.mdr_sound_bodies.proofs.Joined.{or_right}
 use Rattle.mdr_sound_bodies.proofs.Growing.{heads_grow}
 use Rattle.mdr_sound_bodies.proofs.Declaring.{declared_before}
 use Rattle.mdr_sound_bodies.proofs.Going.{here_less, here_local}
-use Rattle.mdr_sound_bodies.proofs.Coding.{grounded_left, grounded_right, typed_both}
+use Rattle.mdr_sound_bodies.proofs.Coding.{typed_both}
 use Rattle.mdr_sound_bodies.proofs.Stating.{simple_typed}
 
 -- two parts that are found right
@@ -90,21 +89,20 @@ module _ (program : Program) (slots : List Slot) (base : ℕ) (scope : Scope) (f
       heads_here b test step body ls (simple_here here t l (λ n. takes_along n ls (tail test step body n)) h proper.0 (told_head l ls test step body) first) proper.1 declared
 
   module _ (rules : Rules) (sound : AreSoundRules program slots scope rules) (result : Ty) (gives : frame.result ≡ Ok result) (given : (sort_of (length program.structs) result ≡ Scalar) ⊎ (result ≡ type.Void)) where
-    pub heads_typed : (b : Bool) (here : Here) (test : Option Written) (step : Lines) (body : Line) (ls : Lines) (ss : List Stmt) → IsHere program slots base here (λ n. takes_along n ls (tail test step body n)) → AreProper ls → AreDeclared slots base (heads_behind scope frame here test step body ls).locals → AreGrounded program (codes_of ss) → heads_made rules scope frame here test step body ls ≡ Right ss → AreTyped program slots result b (codes_of ss)
+    pub heads_typed : (b : Bool) (here : Here) (test : Option Written) (step : Lines) (body : Line) (ls : Lines) (ss : List Stmt) → IsHere program slots base here (λ n. takes_along n ls (tail test step body n)) → AreProper ls → AreDeclared slots base (heads_behind scope frame here test step body ls).locals → heads_made rules scope frame here test step body ls ≡ Right ss → AreTyped program slots result b (codes_of ss)
     unfolding heads_behind heads_made
-    heads_typed b here test step body Lines.End ss h proper declared g e = subst (λ xs. AreTyped program slots result b (codes_of xs)) (same_right [] ss e) tt
-    heads_typed b here test step body (Lines.Then l ls) ss h proper declared g e =
+    heads_typed b here test step body Lines.End ss h proper declared e = subst (λ xs. AreTyped program slots result b (codes_of xs)) (same_right [] ss e) tt
+    heads_typed b here test step body (Lines.Then l ls) ss h proper declared e =
         let t = head_taken l ls test step body in
         let next : Here = simple_behind scope frame here t l in
         let behind : List ℕ → Bool = λ n. takes_along n ls (tail test step body n) in
         let first = declared_before slots base next.locals (heads_behind scope frame next test step body ls).locals _ (heads_grow scope frame next test step body ls).locals_are declared in
         let parts = both_right (simple_made rules scope frame false here t l) (heads_made rules scope frame next test step body ls) appended ss e in
-        let grounded = subst (λ xs. AreGrounded program (codes_of xs)) (sym (same_right _ _ parts.made)) g in
-        let one = simple_typed program slots base scope frame known rules sound result here false t b l behind parts.left gives given (λ f. absurd (true≢false (sym f))) h proper.0 (told_head l ls test step body) first (grounded_left program parts.left parts.right grounded) parts.first in
-        let rest = heads_typed b next test step body ls parts.right (simple_here here t l behind h proper.0 (told_head l ls test step body) first) proper.1 declared (grounded_right program parts.left parts.right grounded) parts.second in
+        let one = simple_typed program slots base scope frame known rules sound result here false t b l behind parts.left gives given (λ f. absurd (true≢false (sym f))) h proper.0 (told_head l ls test step body) first parts.first in
+        let rest = heads_typed b next test step body ls parts.right (simple_here here t l behind h proper.0 (told_head l ls test step body) first) proper.1 declared parts.second in
         subst (λ xs. AreTyped program slots result b (codes_of xs)) (same_right _ _ parts.made) (typed_both program slots result b parts.left parts.right one rest)
 
-    pub steps_typed : (b : Bool) (here : Here) (ls : Lines) (ss : List Stmt) → IsHere program slots base here (λ n. takes_along n ls false) → AreStatements ls → AreProper ls → AreDeclared slots base (steps_behind scope frame here ls).locals → AreGrounded program (codes_of ss) → steps_made rules scope frame here ls ≡ Right ss → AreTyped program slots result b (codes_of ss)
-    steps_typed b here Lines.End ss h s proper declared g e = subst (λ xs. AreTyped program slots result b (codes_of xs)) (same_right [] ss e) tt
-    steps_typed b here (Lines.Then l ls) ss h s proper declared g e =
-        simple_typed program slots base scope frame known rules sound result here false false b l (λ n. takes_along n ls false) ss gives given (λ f. absurd (true≢false (sym f))) h proper.0 (told_none false l (λ n. takes_along n ls false) s.0) declared g e
+    pub steps_typed : (b : Bool) (here : Here) (ls : Lines) (ss : List Stmt) → IsHere program slots base here (λ n. takes_along n ls false) → AreStatements ls → AreProper ls → AreDeclared slots base (steps_behind scope frame here ls).locals → steps_made rules scope frame here ls ≡ Right ss → AreTyped program slots result b (codes_of ss)
+    steps_typed b here Lines.End ss h s proper declared e = subst (λ xs. AreTyped program slots result b (codes_of xs)) (same_right [] ss e) tt
+    steps_typed b here (Lines.Then l ls) ss h s proper declared e =
+        simple_typed program slots base scope frame known rules sound result here false false b l (λ n. takes_along n ls false) ss gives given (λ f. absurd (true≢false (sym f))) h proper.0 (told_none false l (λ n. takes_along n ls false) s.0) declared e

@@ -15,5 +15,4 @@ pub mod Coming
 pub mod Collecting
 pub mod Entering
 pub mod Making
-pub mod AllocatingCode
-pub mod AllocatingLines
+pub mod Slots

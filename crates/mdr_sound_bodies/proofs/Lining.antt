@@ -8,7 +8,6 @@ use Rattle.mdr_core.specs.declared.place.Place.{Place}
 use Rattle.mdr_core.specs.declared.program.Program.{Program}
 use Rattle.mdr_core.specs.declared.types.Ty.{Ty}
 use Rattle.mdr_core.specs.declared.types.Ty.TheVariants as type
-use Rattle.mdr_rich.specs.Code.{Codes}
 use Rattle.mdr_rich.specs.Folds.{code_of, codes_of, term_of}
 use Rattle.mdr_core.specs.Types.{Scalar, sort_of}
 use Rattle.mdr_core.specs.Typing.{Slot, IsCondition}
@@ -22,7 +21,6 @@ use Rattle.mdr_body.specs.Locals.{with_local, is_taken, entered, numbered}
 use Rattle.mdr_body.specs.Addresses.{takes_in, perhaps_takes, takes_at, takes_along, hides}
 use Rattle.mdr_body.specs.Statements.{Rules, stmt, single, condition, perhaps_condition, appended, pair, ForHead, heads_made, heads_behind, steps_made, steps_behind, for_head, behind_head, block_of, as_part, if_of, while_of, for_of, line_behind, perhaps_behind, lines_behind, line_made, perhaps_made, lines_made}
 use Rattle.mdr_sound_code.proofs.Rights.{same_right, after_right, both_right}
-use Rattle.mdr_sound_bodies.specs.Grounded.{IsGrounded, AreGrounded}
 use Rattle.mdr_sound_bodies.specs.Rules.{AreSoundRules}
 use Rattle.mdr_sound_bodies.specs.Written.{PerhapsHasNumbers, IsStatement, AreStatements, IsProper, AreProper}
 use Rattle.mdr_sound_bodies.specs.Within.{KnowsDeclarations, AreDeclared, in_front, IsTold, IsHere}
@@ -30,7 +28,7 @@ use Rattle.mdr_sound_bodies.proofs.Joined.{or_left, or_right, or_both}
 use Rattle.mdr_sound_bodies.proofs.Growing.{grows_on, grows_numbered, steps_grow, line_grows, perhaps_grow, lines_grow, names_keep}
 use Rattle.mdr_sound_bodies.proofs.Declaring.{declared_before}
 use Rattle.mdr_sound_bodies.proofs.Going.{here_less, here_numbered, here_entered, here_same, here_local}
-use Rattle.mdr_sound_bodies.proofs.Coding.{grounded_head, grounded_left, grounded_right, if_parts, while_part, block_part, for_parts, typed_both, if_typed, while_typed, block_typed, for_typed}
+use Rattle.mdr_sound_bodies.proofs.Coding.{typed_both, if_typed, while_typed, block_typed, for_typed}
 use Rattle.mdr_sound_bodies.proofs.Conditions.{condition_typed, test_typed}
 use Rattle.mdr_sound_bodies.proofs.Stating.{simple_typed, written_right, perhaps_right}
 use Rattle.mdr_sound_bodies.proofs.Heading.{pair_right, tail, told_line, told_none, steps_same, heads_here, heads_typed, steps_typed}
@@ -91,45 +89,42 @@ module _ (program : Program) (slots : List Slot) (base : ℕ) (scope : Scope) (f
   module _ (rules : Rules) (sound : AreSoundRules program slots scope rules) (result : Ty) (gives : frame.result ≡ Ok result) (given : (sort_of (length program.structs) result ≡ Scalar) ⊎ (result ≡ type.Void)) where
     -- ---- lists of statements
 
-    single_typed : (b : Bool) (n : ℕ) (s : Step) (ss : List Stmt) → (IsGrounded program (code_of (stmt n s)) → IsTyped program slots result b (code_of (stmt n s))) → single n s ≡ Right ss → AreGrounded program (codes_of ss) → AreTyped program slots result b (codes_of ss)
-    single_typed b n s ss h e g = subst (λ xs. AreGrounded program (codes_of xs) → AreTyped program slots result b (codes_of xs)) (same_right _ _ e) (λ k. (h (grounded_head program (code_of (stmt n s)) Codes.End k), tt)) g
+    single_typed : (b : Bool) (n : ℕ) (s : Step) (ss : List Stmt) → IsTyped program slots result b (code_of (stmt n s)) → single n s ≡ Right ss → AreTyped program slots result b (codes_of ss)
+    single_typed b n s ss h e = subst (λ xs. AreTyped program slots result b (codes_of xs)) (same_right _ _ e) (h, tt)
 
-    part_typed : (b is_part : Bool) (c : Checked (List Stmt)) (ss : List Stmt) → ((xs : List Stmt) → AreGrounded program (codes_of xs) → c ≡ Right xs → AreTyped program slots result b (codes_of xs)) → AreGrounded program (codes_of ss) → as_part is_part c ≡ Right ss → AreTyped program slots result b (codes_of ss)
-    part_typed b true c ss h g e = h ss g e
-    part_typed b false c ss h g e =
+    part_typed : (b is_part : Bool) (c : Checked (List Stmt)) (ss : List Stmt) → ((xs : List Stmt) → c ≡ Right xs → AreTyped program slots result b (codes_of xs)) → as_part is_part c ≡ Right ss → AreTyped program slots result b (codes_of ss)
+    part_typed b true c ss h e = h ss e
+    part_typed b false c ss h e =
         let a = after_right c block_of ss e in
-        single_typed b 0 (step.Block a.value) ss (λ k. block_typed program slots result b 0 a.value (h a.value (block_part program 0 a.value k) a.right)) a.made g
+        single_typed b 0 (step.Block a.value) ss (block_typed program slots result b 0 a.value (h a.value a.right)) a.made
 
-    joined_typed : (b : Bool) (c d : Checked (List Stmt)) (ss : List Stmt) → ((xs : List Stmt) → AreGrounded program (codes_of xs) → c ≡ Right xs → AreTyped program slots result b (codes_of xs)) → ((xs : List Stmt) → AreGrounded program (codes_of xs) → d ≡ Right xs → AreTyped program slots result b (codes_of xs)) → AreGrounded program (codes_of ss) → both c d appended ≡ Right ss → AreTyped program slots result b (codes_of ss)
-    joined_typed b c d ss h k g e =
+    joined_typed : (b : Bool) (c d : Checked (List Stmt)) (ss : List Stmt) → ((xs : List Stmt) → c ≡ Right xs → AreTyped program slots result b (codes_of xs)) → ((xs : List Stmt) → d ≡ Right xs → AreTyped program slots result b (codes_of xs)) → both c d appended ≡ Right ss → AreTyped program slots result b (codes_of ss)
+    joined_typed b c d ss h k e =
         let parts = both_right c d appended ss e in
-        let grounded = subst (λ xs. AreGrounded program (codes_of xs)) (sym (same_right _ _ parts.made)) g in
         subst (λ xs. AreTyped program slots result b (codes_of xs)) (same_right _ _ parts.made)
         (typed_both program slots result b parts.left parts.right
-        (h parts.left (grounded_left program parts.left parts.right grounded) parts.first)
-        (k parts.right (grounded_right program parts.left parts.right grounded) parts.second))
+        (h parts.left parts.first)
+        (k parts.right parts.second))
 
     -- ---- statements with parts, over those of their parts
 
-    if_right : (b : Bool) (n : ℕ) (tested : Checked Expr) (c d : Checked (List Stmt)) (ss : List Stmt) → 1 ≤ n → ((e : Expr) → tested ≡ Right e → IsCondition (Has program slots (term_of e))) → ((xs : List Stmt) → AreGrounded program (codes_of xs) → c ≡ Right xs → AreTyped program slots result b (codes_of xs)) → ((xs : List Stmt) → AreGrounded program (codes_of xs) → d ≡ Right xs → AreTyped program slots result b (codes_of xs)) → AreGrounded program (codes_of ss) → both (both tested c pair) d (if_of n) ≡ Right ss → AreTyped program slots result b (codes_of ss)
-    if_right b n tested c d ss some t h k g e =
+    if_right : (b : Bool) (n : ℕ) (tested : Checked Expr) (c d : Checked (List Stmt)) (ss : List Stmt) → 1 ≤ n → ((e : Expr) → tested ≡ Right e → IsCondition (Has program slots (term_of e))) → ((xs : List Stmt) → c ≡ Right xs → AreTyped program slots result b (codes_of xs)) → ((xs : List Stmt) → d ≡ Right xs → AreTyped program slots result b (codes_of xs)) → both (both tested c pair) d (if_of n) ≡ Right ss → AreTyped program slots result b (codes_of ss)
+    if_right b n tested c d ss some t h k e =
         let outer = both_right (both tested c pair) d (if_of n) ss e in
         let inner = pair_right tested c outer.left outer.first in
         single_typed b n (step.If outer.left.0 outer.left.1 outer.right) ss
-        (λ q.
-        let parts = if_parts program n outer.left.0 outer.left.1 outer.right q in
-        if_typed program slots result b n outer.left.0 outer.left.1 outer.right some (t outer.left.0 inner.first) (h outer.left.1 parts.first inner.second) (k outer.right parts.second outer.second))
-        outer.made g
+        (if_typed program slots result b n outer.left.0 outer.left.1 outer.right some (t outer.left.0 inner.first) (h outer.left.1 inner.second) (k outer.right outer.second))
+        outer.made
 
-    while_right : (b : Bool) (n : ℕ) (tested : Checked Expr) (c : Checked (List Stmt)) (ss : List Stmt) → 1 ≤ n → ((e : Expr) → tested ≡ Right e → IsCondition (Has program slots (term_of e))) → ((xs : List Stmt) → AreGrounded program (codes_of xs) → c ≡ Right xs → AreTyped program slots result true (codes_of xs)) → AreGrounded program (codes_of ss) → both tested c (while_of n) ≡ Right ss → AreTyped program slots result b (codes_of ss)
-    while_right b n tested c ss some t h g e =
+    while_right : (b : Bool) (n : ℕ) (tested : Checked Expr) (c : Checked (List Stmt)) (ss : List Stmt) → 1 ≤ n → ((e : Expr) → tested ≡ Right e → IsCondition (Has program slots (term_of e))) → ((xs : List Stmt) → c ≡ Right xs → AreTyped program slots result true (codes_of xs)) → both tested c (while_of n) ≡ Right ss → AreTyped program slots result b (codes_of ss)
+    while_right b n tested c ss some t h e =
         let parts = both_right tested c (while_of n) ss e in
         single_typed b n (step.While parts.left parts.right) ss
-        (λ q. while_typed program slots result b n parts.left parts.right some (t parts.left parts.first) (h parts.right (while_part program n parts.left parts.right q) parts.second))
-        parts.made g
+        (while_typed program slots result b n parts.left parts.right some (t parts.left parts.first) (h parts.right parts.second))
+        parts.made
 
-    for_right : (b : Bool) (here : Here) (p : Place) (init : Lines) (test : Option Written) (next : Lines) (body : Line) (n : ℕ) (c : Checked (List Stmt)) (ss : List Stmt) → 1 ≤ n → IsHere program slots base here (λ m. takes_along m init (tail test next body m)) → AreProper init → PerhapsHasNumbers test → AreStatements next → AreProper next → AreDeclared slots base (line_behind scope frame (behind_head scope frame here init test next body) false body).locals → ((xs : List Stmt) → AreGrounded program (codes_of xs) → c ≡ Right xs → AreTyped program slots result true (codes_of xs)) → AreGrounded program (codes_of ss) → both (for_head rules scope frame here p init test next body) c (for_of n) ≡ Right ss → AreTyped program slots result b (codes_of ss)
-    for_right b here p init test next body n c ss some h proper numbers statements steps declared k g e =
+    for_right : (b : Bool) (here : Here) (p : Place) (init : Lines) (test : Option Written) (next : Lines) (body : Line) (n : ℕ) (c : Checked (List Stmt)) (ss : List Stmt) → 1 ≤ n → IsHere program slots base here (λ m. takes_along m init (tail test next body m)) → AreProper init → PerhapsHasNumbers test → AreStatements next → AreProper next → AreDeclared slots base (line_behind scope frame (behind_head scope frame here init test next body) false body).locals → ((xs : List Stmt) → c ≡ Right xs → AreTyped program slots result true (codes_of xs)) → both (for_head rules scope frame here p init test next body) c (for_of n) ≡ Right ss → AreTyped program slots result b (codes_of ss)
+    for_right b here p init test next body n c ss some h proper numbers statements steps declared k e =
         let all = both_right (for_head rules scope frame here p init test next body) c (for_of n) ss e in
         let head = head_right rules scope frame here p init test next body all.left all.first in
         let declared_first = head_declared here init test next body statements declared in
@@ -139,23 +134,21 @@ module _ (program : Program) (slots : List Slot) (base : ℕ) (scope : Scope) (f
         let before_step = here_less program slots base behind (tail test next body) (λ m. takes_along m next false) inside (λ m q. or_left (takes_along m next false) (takes_at m body) (or_right (perhaps_takes m test) (takes_along m next false || takes_at m body) q)) in
         let declared_step = subst (λ (x : Here). AreDeclared slots base x.locals) (sym (steps_same scope frame behind next statements)) declared_first in
         single_typed b n (step.For all.left.0.0 all.left.0.1 all.left.1 all.right) ss
-        (λ q.
-        let parts = for_parts program n all.left.0.0 all.left.0.1 all.left.1 all.right q in
-        for_typed program slots result b n all.left.0.0 all.left.0.1 all.left.1 all.right some
-        (heads_typed program slots base scope frame known rules sound result gives given b here test next body init all.left.0.0 h proper declared_first parts.first head.first)
+        (for_typed program slots result b n all.left.0.0 all.left.0.1 all.left.1 all.right some
+        (heads_typed program slots base scope frame known rules sound result gives given b here test next body init all.left.0.0 h proper declared_first head.first)
         (test_typed program slots scope rules sound behind p test all.left.0.1 inside.knows (record { each = tested }) head.condition)
-        (steps_typed program slots base scope frame known rules sound result gives given false behind next all.left.1 before_step statements steps declared_step parts.stepped head.stepped)
-        (k all.right parts.turn all.second))
-        all.made g
+        (steps_typed program slots base scope frame known rules sound result gives given false behind next all.left.1 before_step statements steps declared_step head.stepped)
+        (k all.right all.second))
+        all.made
 
     -- ---- all statements
 
     mutual
-      pub line_typed : (here : Here) (in_loop is_part t : Bool) (l : Line) (behind : List ℕ → Bool) (ss : List Stmt) → IsHere program slots base here (in_front l behind) → IsProper l → IsTold t l behind → AreDeclared slots base (line_behind scope frame here t l).locals → AreGrounded program (codes_of ss) → line_made rules scope frame in_loop is_part here t l ≡ Right ss → AreTyped program slots result in_loop (codes_of ss)
-      line_typed here in_loop is_part t (Line.Block p ls) behind ss h proper told declared g e =
+      pub line_typed : (here : Here) (in_loop is_part t : Bool) (l : Line) (behind : List ℕ → Bool) (ss : List Stmt) → IsHere program slots base here (in_front l behind) → IsProper l → IsTold t l behind → AreDeclared slots base (line_behind scope frame here t l).locals → line_made rules scope frame in_loop is_part here t l ≡ Right ss → AreTyped program slots result in_loop (codes_of ss)
+      line_typed here in_loop is_part t (Line.Block p ls) behind ss h proper told declared e =
           let inside = here_entered program slots base here (λ n. takes_along n ls false) (here_less program slots base here _ (λ n. takes_along n ls false) h (λ name q. or_left (takes_along name ls false) (behind name) q)) in
-          part_typed in_loop is_part (lines_made rules scope frame in_loop (entered here) ls) ss (λ xs k q. lines_typed (entered here) in_loop ls xs inside proper declared k q) g e
-      line_typed here in_loop is_part t (Line.If p w one other) behind ss h proper told declared g e =
+          part_typed in_loop is_part (lines_made rules scope frame in_loop (entered here) ls) ss (λ xs q. lines_typed (entered here) in_loop ls xs inside proper declared q) e
+      line_typed here in_loop is_part t (Line.If p w one other) behind ss h proper told declared e =
           let b : Here = line_behind scope frame (numbered here) false one in
           let all = here_less program slots base here _ (λ n. takes_in n w || (takes_at n one || takes_along n other false)) h (λ name q. or_left (takes_in name w || (takes_at name one || takes_along name other false)) (behind name) q) in
           let parts = here_numbered program slots base here _ (here_less program slots base here _ (λ n. takes_at n one || takes_along n other false) all (λ name q. or_right (takes_in name w) _ q)) in
@@ -165,40 +158,40 @@ module _ (program : Program) (slots : List Slot) (base : ℕ) (scope : Scope) (f
           let right = written_right program slots base scope frame known rules sound result here _ w all (λ name q. or_left (takes_in name w) _ q) proper.0 in
           if_right in_loop here.number (condition rules scope here p w) (line_made rules scope frame in_loop true (numbered here) false one) (perhaps_made rules scope frame in_loop b other) ss h.number
           (λ x q. condition_typed program slots scope rules sound here p w x h.knows right q)
-          (λ xs k q. line_typed (numbered here) in_loop true false one (λ n. false) xs first proper.1.0.1 (told_none false one (λ n. false) proper.1.0.0) declared_first k q)
-          (λ xs k q. perhaps_typed b in_loop other xs second proper.1.1.0 proper.1.1.1 declared k q)
-          g e
-      line_typed here in_loop is_part t (Line.While p w body) behind ss h proper told declared g e =
+          (λ xs q. line_typed (numbered here) in_loop true false one (λ n. false) xs first proper.1.0.1 (told_none false one (λ n. false) proper.1.0.0) declared_first q)
+          (λ xs q. perhaps_typed b in_loop other xs second proper.1.1.0 proper.1.1.1 declared q)
+          e
+      line_typed here in_loop is_part t (Line.While p w body) behind ss h proper told declared e =
           let all = here_less program slots base here _ (λ n. takes_in n w || takes_at n body) h (λ name q. or_left (takes_in name w || takes_at name body) (behind name) q) in
           let inside = here_numbered program slots base here _ (here_less program slots base here _ (in_front body (λ n. false)) all (λ name q. front_of_none body name (or_right (takes_in name w) (takes_at name body) q))) in
           let right = written_right program slots base scope frame known rules sound result here _ w all (λ name q. or_left (takes_in name w) _ q) proper.0 in
           while_right in_loop here.number (condition rules scope here p w) (line_made rules scope frame true true (numbered here) false body) ss h.number
           (λ x q. condition_typed program slots scope rules sound here p w x h.knows right q)
-          (λ xs k q. line_typed (numbered here) true true false body (λ n. false) xs inside proper.1.1 (told_none false body (λ n. false) proper.1.0) declared k q)
-          g e
-      line_typed here in_loop is_part t (Line.For p init test next body) behind ss h proper told declared g e =
+          (λ xs q. line_typed (numbered here) true true false body (λ n. false) xs inside proper.1.1 (told_none false body (λ n. false) proper.1.0) declared q)
+          e
+      line_typed here in_loop is_part t (Line.For p init test next body) behind ss h proper told declared e =
           let all = here_entered program slots base here _ (here_less program slots base here _ (λ n. takes_along n init (tail test next body n)) h (λ name q. or_left (takes_along name init (tail test next body name)) (behind name) q)) in
           let first = heads_here program slots base scope frame known (entered here) test next body init all proper.0.0 (head_declared (entered here) init test next body proper.1.0.0 declared) in
           let b : Here = behind_head scope frame (entered here) init test next body in
           let inside = here_less program slots base b (tail test next body) (in_front body (λ n. false)) (head_here (entered here) init test next body first proper.1.0.0) (λ name q. front_of_none body name (or_right (takes_along name next false) (takes_at name body) (or_right (perhaps_takes name test) (takes_along name next false || takes_at name body) q))) in
           for_right in_loop (entered here) p init test next body here.number (line_made rules scope frame true true b false body) ss h.number all proper.0.0 proper.0.1 proper.1.0.0 proper.1.0.1 declared
-          (λ xs k q. line_typed b true true false body (λ n. false) xs inside proper.1.1.1 (told_none false body (λ n. false) proper.1.1.0) declared k q)
-          g e
-      line_typed here in_loop is_part t l behind ss h proper told declared g e =
-          simple_typed program slots base scope frame known rules sound result here in_loop t in_loop l behind ss gives given (λ q. q) h proper told declared g e
+          (λ xs q. line_typed b true true false body (λ n. false) xs inside proper.1.1.1 (told_none false body (λ n. false) proper.1.1.0) declared q)
+          e
+      line_typed here in_loop is_part t l behind ss h proper told declared e =
+          simple_typed program slots base scope frame known rules sound result here in_loop t in_loop l behind ss gives given (λ q. q) h proper told declared e
 
-      pub perhaps_typed : (here : Here) (in_loop : Bool) (ls : Lines) (ss : List Stmt) → IsHere program slots base here (λ n. takes_along n ls false) → AreStatements ls → AreProper ls → AreDeclared slots base (perhaps_behind scope frame here ls).locals → AreGrounded program (codes_of ss) → perhaps_made rules scope frame in_loop here ls ≡ Right ss → AreTyped program slots result in_loop (codes_of ss)
-      perhaps_typed here in_loop Lines.End ss h s proper declared g e = subst (λ xs. AreTyped program slots result in_loop (codes_of xs)) (same_right [] ss e) tt
-      perhaps_typed here in_loop (Lines.Then l ls) ss h s proper declared g e = line_typed here in_loop true false l (λ n. takes_along n ls false) ss h proper.0 (told_none false l (λ n. takes_along n ls false) s.0) declared g e
+      pub perhaps_typed : (here : Here) (in_loop : Bool) (ls : Lines) (ss : List Stmt) → IsHere program slots base here (λ n. takes_along n ls false) → AreStatements ls → AreProper ls → AreDeclared slots base (perhaps_behind scope frame here ls).locals → perhaps_made rules scope frame in_loop here ls ≡ Right ss → AreTyped program slots result in_loop (codes_of ss)
+      perhaps_typed here in_loop Lines.End ss h s proper declared e = subst (λ xs. AreTyped program slots result in_loop (codes_of xs)) (same_right [] ss e) tt
+      perhaps_typed here in_loop (Lines.Then l ls) ss h s proper declared e = line_typed here in_loop true false l (λ n. takes_along n ls false) ss h proper.0 (told_none false l (λ n. takes_along n ls false) s.0) declared e
 
-      pub lines_typed : (here : Here) (in_loop : Bool) (ls : Lines) (ss : List Stmt) → IsHere program slots base here (λ n. takes_along n ls false) → AreProper ls → AreDeclared slots base (lines_behind scope frame here ls).locals → AreGrounded program (codes_of ss) → lines_made rules scope frame in_loop here ls ≡ Right ss → AreTyped program slots result in_loop (codes_of ss)
-      lines_typed here in_loop Lines.End ss h proper declared g e = subst (λ xs. AreTyped program slots result in_loop (codes_of xs)) (same_right [] ss e) tt
-      lines_typed here in_loop (Lines.Then l ls) ss h proper declared g e =
+      pub lines_typed : (here : Here) (in_loop : Bool) (ls : Lines) (ss : List Stmt) → IsHere program slots base here (λ n. takes_along n ls false) → AreProper ls → AreDeclared slots base (lines_behind scope frame here ls).locals → lines_made rules scope frame in_loop here ls ≡ Right ss → AreTyped program slots result in_loop (codes_of ss)
+      lines_typed here in_loop Lines.End ss h proper declared e = subst (λ xs. AreTyped program slots result in_loop (codes_of xs)) (same_right [] ss e) tt
+      lines_typed here in_loop (Lines.Then l ls) ss h proper declared e =
           let t = is_taken l ls in
           let b : Here = line_behind scope frame here t l in
           let first = declared_before slots base b.locals (lines_behind scope frame b ls).locals _ (lines_grow scope frame b ls).locals_are declared in
           let next = line_here here t l (λ n. takes_along n ls false) h proper.0 (told_line l ls) first in
           joined_typed in_loop (line_made rules scope frame in_loop false here t l) (lines_made rules scope frame in_loop b ls) ss
-          (λ xs k q. line_typed here in_loop false t l (λ n. takes_along n ls false) xs h proper.0 (told_line l ls) first k q)
-          (λ xs k q. lines_typed b in_loop ls xs next proper.1 declared k q)
-          g e
+          (λ xs q. line_typed here in_loop false t l (λ n. takes_along n ls false) xs h proper.0 (told_line l ls) first q)
+          (λ xs q. lines_typed b in_loop ls xs next proper.1 declared q)
+          e

@@ -1,5 +1,6 @@
 -- A function that is made of a head and a body keeps to the rules of sound programs.
-use Rattle.std.proofs.Common.{◌≡◌, ℕ, suc, Bool, true, false, List, [], ◌∷◌, ◌++◌, length, map, Some, Ok, refl, ap, sym, ◌∙◌, subst, slice_get}
+use Rattle.std.proofs.Common.{◌≡◌, inl, ℕ, zero, suc, ◌+◌, Bool, true, false, List, [], ◌∷◌, ◌++◌, length, map, Some, Ok, refl, ap, sym, ◌∙◌, subst, slice_get, append_assoc}
+use Rattle.std.proofs.lemmas.List.{length-append, map-append}
 use Rattle.mdr_rich.specs.declared.code.Stmt.{Stmt}
 use Rattle.mdr_core.specs.declared.program.Local.{Local}
 use Rattle.mdr_core.specs.declared.program.Program.{Program}
@@ -7,7 +8,7 @@ use Rattle.mdr_core.specs.declared.types.Ty.{Ty}
 use Rattle.mdr_core.specs.Folds.{codes_of as plain_codes_of}
 use Rattle.mdr_rich.specs.Folds.{codes_of}
 use Rattle.mdr_core.specs.Sound.{IsSoundLocal}
-use Rattle.mdr_core.specs.Types.{HasNumber}
+use Rattle.mdr_core.specs.Types.{HasNumber, sort_of}
 use Rattle.mdr_core.specs.Typing.{Slot, slot_of_param, slot_of_local, AreTyped as ArePlainTyped}
 use Rattle.mdr_rich.specs.Typing.{AreTyped}
 use Rattle.mdr_syntax.specs.declared.tree.Head.{Head}
@@ -29,12 +30,13 @@ use Rattle.mdr_body.specs.Bodies.{declared_locals, frame_of, body_of, body_by, b
 use Rattle.mdr_body.specs.Locals.{struct_locks, parameter_taken, first_here}
 use Rattle.mdr_body.specs.Statements.{Rules, lines_behind, lines_made}
 use Rattle.mdr_lower.specs.Lowering.{lowered}
-use Rattle.mdr_lower.proofs.PlainForms.{lowered_same}
-use Rattle.mdr_lower.proofs.Typed.{codes_typed}
+use Rattle.mdr_lower.proofs.Typed.{IsNew, AreNew, body_shaped, body_typed, new_slots, new_at}
 use Rattle.mdr_program.specs.Parts.{marked}
+use Rattle.mdr_sound_code.proofs.Layers.{pointed_formed}
 use Rattle.mdr_sound_code.proofs.Rights.{same_right, after_right, both_right}
-use Rattle.mdr_sound_bodies.specs.Bodies.{BodiesAreSound}
-use Rattle.mdr_sound_bodies.specs.Grounded.{AreGrounded, ArePlainGrounded}
+use Rattle.mdr_sound_bodies.specs.Allocating.{ArePlainFormed, AllocationsAreFormed}
+use Rattle.mdr_sound_bodies.specs.Bodies.{IsComposed, made_work, BodiesAreSound}
+use Rattle.mdr_sound_bodies.specs.Grounded.{ArePlainGrounded}
 use Rattle.mdr_sound_bodies.specs.Rules.{AreSoundRules}
 use Rattle.mdr_sound_bodies.specs.Within.{KnowsDeclarations, AreDeclared}
 use Rattle.mdr_sound_bodies.specs.Written.{AreNamed, AreProper}
@@ -44,6 +46,7 @@ use Rattle.mdr_sound_bodies.proofs.Coming.{IsFrom, AreFrom, from_none, from_line
 use Rattle.mdr_sound_bodies.proofs.Entering.{parameters_here, params_many, marked_many}
 use Rattle.mdr_sound_bodies.proofs.Lining.{lines_typed}
 use Rattle.mdr_sound_bodies.proofs.Scoping.{same_result}
+use Rattle.mdr_sound_bodies.proofs.Slots.{new_sound}
 
 -- ---- a head
 
@@ -109,8 +112,8 @@ module _ (program : Program) (rules : Rules) (scope : Scope) (h : Head) (nodes :
   unfolding frame_of
   result_told t e = ap told e
 
-  made_typed : (outer : Scope) → outer.tags ≡ scope.tags → (g : Heading) (siblings : List Candidate) (locals : List Local) (ss : List Stmt) → IsHeaded outer siblings h g → ((slots : List Slot) → AreSoundRules program slots scope rules) → AreNamed h.params → AreProper (lines_of nodes) → AreGrounded program (codes_of ss) → declared_locals (lines_behind scope (frame_of scope h) (first_here scope (lines_of nodes) h.params) (lines_of nodes)).locals ≡ Right locals → lines_made rules scope (frame_of scope h) false (first_here scope (lines_of nodes) h.params) (lines_of nodes) ≡ Right ss → AreTyped program (map slot_of_param (marked (map (parameter_taken (lines_of nodes)) h.params) 0 g.params) ++ map slot_of_local locals) g.result false (codes_of ss)
-  made_typed outer tags g siblings locals ss headed sound named proper grounded declared made =
+  made_typed : (outer : Scope) → outer.tags ≡ scope.tags → (g : Heading) (siblings : List Candidate) (locals : List Local) (ss : List Stmt) → IsHeaded outer siblings h g → ((slots : List Slot) → AreSoundRules program slots scope rules) → AreNamed h.params → AreProper (lines_of nodes) → declared_locals (lines_behind scope (frame_of scope h) (first_here scope (lines_of nodes) h.params) (lines_of nodes)).locals ≡ Right locals → lines_made rules scope (frame_of scope h) false (first_here scope (lines_of nodes) h.params) (lines_of nodes) ≡ Right ss → AreTyped program (map slot_of_param (marked (map (parameter_taken (lines_of nodes)) h.params) 0 g.params) ++ map slot_of_local locals) g.result false (codes_of ss)
+  made_typed outer tags g siblings locals ss headed sound named proper declared made =
       let ls : Lines = lines_of nodes in
       let here : Here = first_here scope ls h.params in
       let front : List Slot = map slot_of_param (marked (map (parameter_taken ls) h.params) 0 g.params) in
@@ -119,17 +122,26 @@ module _ (program : Program) (rules : Rules) (scope : Scope) (h : Head) (nodes :
       let result : head_result scope h ≡ Right g.result = sym (same_result outer scope h tags) ∙ headed.result in
       let are = subst (λ k. AreDeclared all k (lines_behind scope (frame_of scope h) here ls).locals) base (all_declared front (lines_behind scope (frame_of scope h) here ls).locals locals declared) in
       lines_typed program all (length h.params) scope (frame_of scope h) known rules (sound all) g.result (result_told g.result result) (known.results h g.result result) here false ls ss
-      (parameters_here program outer scope tags known siblings ls h.params g.params headed.params locals named) proper are grounded made
+      (parameters_here program outer scope tags known siblings ls h.params g.params headed.params locals named) proper are made
 
 -- ---- lowered
 
--- a typed body is lowered to one
-body_lowered : (program : Program) (slots : List Slot) (result : Ty) (ss : List Stmt) → AreTyped program slots result false (codes_of ss) → ArePlainTyped program slots result false (plain_codes_of (lowered ss))
-body_lowered program slots result ss h = subst (ArePlainTyped program slots result false) (sym (lowered_same ss)) (codes_typed program slots result false (codes_of ss) h)
+-- a typed body, with the number of its first new slot
+module _ (program : Program) (slots : List Slot) (result : Ty) (ss : List Stmt) (typed : AreTyped program slots result false (codes_of ss)) where
+  pub body_lowered : (k : ℕ) → length slots ≡ k → ArePlainGrounded program (plain_codes_of (lowered k ss).code) → ArePlainTyped program (slots ++ map slot_of_local (lowered k ss).slots) result false (plain_codes_of (lowered k ss).code)
+  body_lowered k e = subst (λ n. ArePlainGrounded program (plain_codes_of (lowered n ss).code) → ArePlainTyped program (slots ++ map slot_of_local (lowered n ss).slots) result false (plain_codes_of (lowered n ss).code)) e (λ g. body_typed program slots result ss typed g.types)
 
--- what the types of a lowered body ask is what those of the body ask
-pub body_grounded : (program : Program) (ss : List Stmt) → ArePlainGrounded program (plain_codes_of (lowered ss)) → AreGrounded program (codes_of ss)
-body_grounded program ss h = let g = subst (ArePlainGrounded program) (lowered_same ss) h in record { types = g.types }
+  pub body_allocates : (k : ℕ) → length slots ≡ k → ArePlainFormed program (plain_codes_of (lowered k ss).code)
+  body_allocates k e = subst (λ n. ArePlainFormed program (plain_codes_of (lowered n ss).code)) e (λ t h. pointed_formed (length program.structs) t (inl (body_shaped program slots result ss typed t h)))
+
+  pub body_slots : (k : ℕ) → length slots ≡ k → AreNew program (lowered k ss).slots
+  body_slots k e = subst (λ n. AreNew program (lowered n ss).slots) e (new_slots program slots result ss typed)
+
+-- of each item of two lists
+each_of : {A : Type 0} (P : A → Type 0) (xs ys : List A) → ((i : ℕ) (x : A) → slice_get xs i ≡ Some x → P x) → ((i : ℕ) (x : A) → slice_get ys i ≡ Some x → P x) → (i : ℕ) (x : A) → slice_get (xs ++ ys) i ≡ Some x → P x
+each_of P [] ys first second i x e = second i x e
+each_of P (z ∷ zs) ys first second zero x e = first zero x e
+each_of P (z ∷ zs) ys first second (suc i) x e = each_of P zs ys (λ j y q. first (suc j) y q) second i x e
 
 -- ---- the function
 
@@ -137,23 +149,60 @@ pub rule_right : (rules : Rules) (scope : Scope) (h : Head) (nodes : List Node) 
 unfolding body_rule
 rule_right rules scope h nodes body e = body_right rules scope (frame_of scope h) (first_here scope (lines_of nodes) h.params) (map (parameter_taken (lines_of nodes)) h.params) (lines_of nodes) body e
 
+module _ (program : Program) (rules : Rules) (scope : Scope) (h : Head) (nodes : List Node) (g : Heading) (body : Body) (known : KnowsDeclarations program scope) (sound : (slots : List Slot) → AreSoundRules program slots scope rules) (made : IsComposed rules scope h nodes g body) where
+  bodied : IsBodied rules scope (frame_of scope h) (first_here scope (lines_of nodes) h.params) (map (parameter_taken (lines_of nodes)) h.params) (lines_of nodes) body
+  bodied = rule_right rules scope h nodes body made.body_is
+
+  abbrev Slots : List Slot
+  Slots = map slot_of_param (marked body.objects 0 g.params) ++ map slot_of_local body.locals
+
+  statements_typed : AreTyped program Slots g.result false (codes_of body.statements)
+  statements_typed = subst (λ os. AreTyped program (map slot_of_param (marked os 0 g.params) ++ map slot_of_local body.locals) g.result false (codes_of body.statements)) bodied.marks
+      (made_typed program rules scope h nodes known made.front made.tags g (map (candidate made.front) h.params) body.locals body.statements (heading_right made.front h g made.heading_is) sound made.named made.proper bodied.locals bodied.statements)
+
+  slots_many : length Slots ≡ length g.params + length body.locals
+  slots_many =
+      let front = mapped_many slot_of_param (marked body.objects 0 g.params) ∙ marked_many body.objects 0 g.params in
+      let behind = mapped_many slot_of_local body.locals in
+      length-append (map slot_of_param (marked body.objects 0 g.params)) (map slot_of_local body.locals) ∙ (λ i. front i + behind i)
+
+  pub made_new : AreNew program (made_work g body).slots
+  made_new = body_slots program Slots g.result body.statements statements_typed (length g.params + length body.locals) slots_many
+
+  pub made_formed : ArePlainFormed program (plain_codes_of (made_work g body).code)
+  made_formed = body_allocates program Slots g.result body.statements statements_typed (length g.params + length body.locals) slots_many
+
+  -- the slots of the function
+  pub slots_are : Slots ++ map slot_of_local (made_work g body).slots ≡ map slot_of_param (marked body.objects 0 g.params) ++ map slot_of_local (body.locals ++ (made_work g body).slots)
+  slots_are = append_assoc (map slot_of_param (marked body.objects 0 g.params)) (map slot_of_local body.locals) (map slot_of_local (made_work g body).slots)
+      ∙ ap (λ (xs : List Slot). map slot_of_param (marked body.objects 0 g.params) ++ xs) (sym (map-append slot_of_local body.locals (made_work g body).slots))
+
+  body_made : ArePlainGrounded program (plain_codes_of (made_work g body).code) → ArePlainTyped program (map slot_of_param (marked body.objects 0 g.params) ++ map slot_of_local (body.locals ++ (made_work g body).slots)) g.result false (plain_codes_of (made_work g body).code)
+  body_made grounded = subst (λ (xs : List Slot). ArePlainTyped program xs g.result false (plain_codes_of (made_work g body).code)) slots_are
+      (body_lowered program Slots g.result body.statements statements_typed (length g.params + length body.locals) slots_many grounded)
+
+  pub all_locals : (P : Local → Type 0) → ((i : ℕ) (l : Local) → slice_get body.locals i ≡ Some l → P l) → ((l : Local) → IsNew program l → P l) → (i : ℕ) (l : Local) → slice_get (body.locals ++ (made_work g body).slots) i ≡ Some l → P l
+  all_locals P own new = each_of P body.locals (made_work g body).slots own (λ i l e. new l (new_at program (made_work g body).slots i l made_new e))
+
 pub made_sound : BodiesAreSound
 made_sound program rules scope h nodes g body name is_critical known sound made =
     let here : Here = first_here scope (lines_of nodes) h.params in
-    let b = rule_right rules scope h nodes body made.body_is in
-    let headed = heading_right made.front h g made.heading_is in
+    let b = rule_right rules scope h nodes body made.composed.body_is in
     let marks = subst (λ os. IsBodied rules scope (frame_of scope h) here os (lines_of nodes) body) b.marks b in
     record {
-      locals = made_locals program rules scope h nodes known body here marks (first_from program rules scope h nodes known) made.in_table;
-      body = body_lowered program (map slot_of_param (marked body.objects 0 g.params) ++ map slot_of_local body.locals) g.result body.statements
-          (subst (λ os. AreTyped program (map slot_of_param (marked os 0 g.params) ++ map slot_of_local body.locals) g.result false (codes_of body.statements)) b.marks
-          (made_typed program rules scope h nodes known made.front made.tags g (map (candidate made.front) h.params) body.locals body.statements headed sound made.named made.proper made.grounded b.locals b.statements));
+      locals = all_locals program rules scope h nodes g body known sound made.composed (IsSoundLocal program)
+          (made_locals program rules scope h nodes known body here marks (first_from program rules scope h nodes known) made.in_table) (λ l new. new_sound program l new);
+      body = body_made program rules scope h nodes g body known sound made.composed made.grounded;
     }
 
--- the types of a body's locals are types of objects, whatever stands in the type table
-pub locals_formed : (program : Program) (rules : Rules) (scope : Scope) (h : Head) (nodes : List Node) (body : Body) → KnowsDeclarations program scope → body_rule rules scope h nodes ≡ Right body → (i : ℕ) (l : Local) → slice_get body.locals i ≡ Some l → IsFormed program l.ty
-locals_formed program rules scope h nodes body known e i l at =
+pub allocations_formed : AllocationsAreFormed
+allocations_formed program rules scope h nodes g body known sound made = made_formed program rules scope h nodes g body known sound made
+
+-- the types of a function's locals are types of objects, whatever stands in the type table
+pub locals_formed : (program : Program) (rules : Rules) (scope : Scope) (h : Head) (nodes : List Node) (g : Heading) (body : Body) → KnowsDeclarations program scope → ((slots : List Slot) → AreSoundRules program slots scope rules) → IsComposed rules scope h nodes g body → (i : ℕ) (l : Local) → slice_get (body.locals ++ (made_work g body).slots) i ≡ Some l → IsFormed program l.ty
+locals_formed program rules scope h nodes g body known sound made =
     let here : Here = first_here scope (lines_of nodes) h.params in
-    let b = rule_right rules scope h nodes body e in
-    let m = meant (lines_behind scope (frame_of scope h) here (lines_of nodes)).locals body.locals i l b.locals at in
-    declared_formed program scope known m.declared l (told_from program rules scope h nodes known i m.declared m.at) m.means
+    let b = rule_right rules scope h nodes body made.body_is in
+    all_locals program rules scope h nodes g body known sound made (λ (l : Local). IsFormed program l.ty)
+    (λ i l at. let m = meant (lines_behind scope (frame_of scope h) here (lines_of nodes)).locals body.locals i l b.locals at in declared_formed program scope known m.declared l (told_from program rules scope h nodes known i m.declared m.at) m.means)
+    (λ l new. inl (ap (λ (x : Local). sort_of (length program.structs) x.ty) new.is ∙ new.formed))

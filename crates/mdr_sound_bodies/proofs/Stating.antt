@@ -12,7 +12,7 @@ use Rattle.mdr_core.specs.declared.types.Ty.{Ty, out-Ty, roll-Ty, roll-out-Ty}
 use Rattle.mdr_core.specs.declared.types.Ty.TheOpen.{Ty-F}
 use Rattle.mdr_core.specs.declared.types.Ty.TheVariants as type
 use Rattle.mdr_core.specs.Code.{Way}
-use Rattle.mdr_rich.specs.Code.{Code, Codes}
+use Rattle.mdr_rich.specs.Code.{Code}
 use Rattle.mdr_rich.specs.Folds.{code_of, codes_of, lvalue_of}
 use Rattle.mdr_core.specs.Types.{Scalar, is_scalar, sort_of}
 use Rattle.mdr_core.specs.Typing.{Slot, One, IsLocal, TakesText, extent, slot_of_local}
@@ -35,7 +35,6 @@ use Rattle.mdr_body.specs.Statements.{Rules, stmt, single, stated, text_of, take
 use Rattle.mdr_sound_code.specs.Knowing.{KnowsLocals, HasNumbers, IsFormed}
 use Rattle.mdr_sound_code.proofs.Layers.{int_from}
 use Rattle.mdr_sound_code.proofs.Rights.{not_right, same_right, same_ok, again_right, after_right, chosen_right, refused_right}
-use Rattle.mdr_sound_bodies.specs.Grounded.{AreGrounded}
 use Rattle.mdr_sound_bodies.specs.Rules.{IsSoundStep, IsRight, AreSoundRules}
 use Rattle.mdr_sound_bodies.specs.Written.{PerhapsHasNumbers, IsProper}
 use Rattle.mdr_sound_bodies.specs.Within.{KnowsDeclarations, AreDeclared, in_front, IsTold, IsHere}
@@ -43,7 +42,6 @@ use Rattle.mdr_sound_bodies.proofs.Joined.{or_left, or_right}
 use Rattle.mdr_sound_bodies.proofs.Scalars.{formed_scalar}
 use Rattle.mdr_sound_bodies.proofs.Declaring.{IsAt, local_at, local_object_right}
 use Rattle.mdr_sound_bodies.proofs.Going.{here_local, takes_no_slot}
-use Rattle.mdr_sound_bodies.proofs.Coding.{grounded_head, grounded_tail}
 
 and_first : (a b : Bool) → (a && b) ≡ true → a ≡ true
 and_first true b e = refl
@@ -85,12 +83,12 @@ within count n e = on (nat_lt count n) refl e where
 
 module _ (program : Program) (slots : List Slot) (result : Ty) where
   -- a statement of a step that is sound
-  pub step_typed : (n : ℕ) (s : Step) (ss : List Stmt) (b : Bool) → IsSoundStep program slots result s → 1 ≤ n → single n s ≡ Right ss → AreGrounded program (codes_of ss) → AreTyped program slots result b (codes_of ss)
-  step_typed n s ss b sound some is g = subst (λ xs. AreGrounded program (codes_of xs) → AreTyped program slots result b (codes_of xs)) (same_right _ _ is) (λ h. (sound n b some (grounded_head program (code_of (stmt n s)) Codes.End h), tt)) g
+  pub step_typed : (n : ℕ) (s : Step) (ss : List Stmt) (b : Bool) → IsSoundStep program slots result s → 1 ≤ n → single n s ≡ Right ss → AreTyped program slots result b (codes_of ss)
+  step_typed n s ss b sound some is = subst (λ xs. AreTyped program slots result b (codes_of xs)) (same_right _ _ is) (sound n b some, tt)
 
   -- a step whose code is right at any number
   pub step_is : (s : Step) (c : ℕ → Code) → ((n : ℕ) → code_of (stmt n s) ≡ c n) → ((n : ℕ) (b : Bool) → 1 ≤ n → IsTyped program slots result b (c n)) → IsSoundStep program slots result s
-  step_is s c is h n b some g = subst (IsTyped program slots result b) (sym (is n)) (h n b some)
+  step_is s c is h n b some = subst (IsTyped program slots result b) (sym (is n)) (h n b some)
 
   declare_sound : (i : ℕ) → IsLocal slots i → IsSoundStep program slots result (step.Declare i)
   declare_sound i h = step_is (step.Declare i) (λ n. Code.Declare n i) (λ n. code_is (stmt n (step.Declare i)) (step.Declare i) refl ∙ declare_is n i) (λ n b some. record { numbered = some; right = h })
@@ -135,10 +133,10 @@ module _ (program : Program) (slots : List Slot) (result : Ty) where
       at_list b _ ss j.is (continue_typed n b (inside j.inside) some)
 
   -- a step that is found right
-  pub stated_typed : (n : ℕ) (c : Checked Step) (ss : List Stmt) (b : Bool) → ((s : Step) → c ≡ Right s → IsSoundStep program slots result s) → 1 ≤ n → stated n c ≡ Right ss → AreGrounded program (codes_of ss) → AreTyped program slots result b (codes_of ss)
-  stated_typed n c ss b sound some e g =
+  pub stated_typed : (n : ℕ) (c : Checked Step) (ss : List Stmt) (b : Bool) → ((s : Step) → c ≡ Right s → IsSoundStep program slots result s) → 1 ≤ n → stated n c ≡ Right ss → AreTyped program slots result b (codes_of ss)
+  stated_typed n c ss b sound some e =
       let a = after_right c (single n) ss e in
-      step_typed n a.value ss b (sound a.value a.right) some a.made g
+      step_typed n a.value ss b (sound a.value a.right) some a.made
 
 not_false : (b : Bool) → not b ≡ true → b ≡ false
 not_false true e = absurd cc
@@ -175,9 +173,9 @@ module _ (program : Program) (slots : List Slot) (base : ℕ) (scope : Scope) (f
   is_local : (i : ℕ) (t : Bool) (d : Decl) → IsAt slots scope frame.locks i t d → IsLocal slots i
   is_local i t d h = record { slot = slot_of_local (local_of t d h.object); names = h.names; local = refl }
 
-  own_by : (i : ℕ) (t : Bool) (d : Decl) (o : Object) (b : Bool) → is_own_object t o ≡ b → o.array ≡ false → slice_get slots i ≡ Some (slot_of_local (local_of t d o)) → Designates program slots (lvalue_of (own_place b i)) (One o.ty)
-  own_by i t d o true own single names = subst (λ l. Designates program slots l (One o.ty)) (sym (object_is i)) (record { slot = slot_of_local (local_of t d o); names = names; kept = own; is = ap (λ a. extent a o.ty o.count) (sym single) })
-  own_by i t d o false own single names = subst (λ l. Designates program slots l (One o.ty)) (sym (slot_is i)) (record { slot = slot_of_local (local_of t d o); names = names; kept = own; is = ap (λ a. extent a o.ty o.count) (sym single) })
+  own_by : (i : ℕ) (t : Bool) (d : Decl) (o : Object) (b : Bool) → is_own_object t o ≡ b → o.array ≡ false → slice_get slots i ≡ Some (slot_of_local (local_of t d o)) → Designates program slots (lvalue_of (own_place b i o.ty)) (One o.ty)
+  own_by i t d o true own single names = subst (λ l. Designates program slots l (One o.ty)) (sym (object_is i o.ty)) (record { slot = slot_of_local (local_of t d o); names = names; kept = own; is = ap (λ a. extent a o.ty o.count) (sym single) }, refl)
+  own_by i t d o false own single names = subst (λ l. Designates program slots l (One o.ty)) (sym (slot_is i o.ty)) (record { slot = slot_of_local (local_of t d o); names = names; kept = own; is = ap (λ a. extent a o.ty o.count) (sym single) }, refl)
 
   initial_by_sound : (names : List LocalName) (p : Place) (i : ℕ) (t : Bool) (d : Decl) (w : Written) (text : Option (List ℕ)) (o : Object) (s : Step) → KnowsLocals program slots names → IsRight names w → IsFormed program o.ty → slice_get slots i ≡ Some (slot_of_local (local_of t d o)) → initial_by rules scope names p i t w text o ≡ Right s → IsSoundStep program slots result s
   initial_by_sound names p i t d w (Some bytes) o s knows right formed at e =
@@ -192,9 +190,9 @@ module _ (program : Program) (slots : List Slot) (base : ℕ) (scope : Scope) (f
         fits = within o.count (length bytes) (and_second o.array (not (nat_lt o.count (length bytes))) rest);
       }))
   initial_by_sound names p i t d w None o s knows right formed at e =
-      let c = chosen_right (is_single o) (rules.stored scope names p (own_place (is_own_object t o) i) o.ty w) p Mismatch s e in
+      let c = chosen_right (is_single o) (rules.stored scope names p (own_place (is_own_object t o) i o.ty) o.ty w) p Mismatch s e in
       let single = not_false o.array (and_second (is_scalar o.ty) (not o.array) c.holds) in
-      sound.stored names p (own_place (is_own_object t o) i) o.ty w s result knows right
+      sound.stored names p (own_place (is_own_object t o) i o.ty) o.ty w s result knows right
       (own_by i t d o (is_own_object t o) refl single at)
       (formed_scalar program o.ty formed (and_first (is_scalar o.ty) (not o.array) c.holds))
       c.right
@@ -208,19 +206,15 @@ module _ (program : Program) (slots : List Slot) (base : ℕ) (scope : Scope) (f
       initial_by_sound names (out-Decl d).place here.slot t d w (text_of w) a.value s knows right (known.formed (out-Decl d).place d a.value object.object)
       (at_object slots scope frame.locks here.slot t d a.value at a.right) a.made
 
-  local_typed : (here : Here) (t b : Bool) (d : Decl) (init : Option Written) (ss : List Stmt) → 1 ≤ here.number → IsAt slots scope frame.locks here.slot t d → KnowsLocals program slots (with_local scope frame.locks t d here).names → ((v : Written) → init ≡ Some v → IsRight (with_local scope frame.locks t d here).names v) → AreGrounded program (codes_of ss) → local_made rules scope frame here t d init ≡ Right ss → AreTyped program slots result b (codes_of ss)
+  local_typed : (here : Here) (t b : Bool) (d : Decl) (init : Option Written) (ss : List Stmt) → 1 ≤ here.number → IsAt slots scope frame.locks here.slot t d → KnowsLocals program slots (with_local scope frame.locks t d here).names → ((v : Written) → init ≡ Some v → IsRight (with_local scope frame.locks t d here).names v) → local_made rules scope frame here t d init ≡ Right ss → AreTyped program slots result b (codes_of ss)
   unfolding local_made
-  local_typed here t b d None ss some at knows right g e = step_typed program slots result here.number (step.Declare here.slot) ss b (declare_sound program slots result here.slot (is_local here.slot t d at)) some e g
-  local_typed here t b d (Some w) ss some at knows right g e =
+  local_typed here t b d None ss some at knows right e = step_typed program slots result here.number (step.Declare here.slot) ss b (declare_sound program slots result here.slot (is_local here.slot t d at)) some e
+  local_typed here t b d (Some w) ss some at knows right e =
       let a = after_right (initial_step rules scope frame here t d w) (declared_then here.number here.slot) ss e in
-      let first : Stmt = stmt here.number (step.Declare here.slot) in
-      let second : Stmt = stmt here.number a.value in
-      subst (λ xs. AreGrounded program (codes_of xs) → AreTyped program slots result b (codes_of xs)) (same_right _ _ a.made)
-      (λ h. (
-        declare_sound program slots result here.slot (is_local here.slot t d at) here.number b some (grounded_head program (code_of first) (codes_of (second ∷ [])) h),
-        (initial_sound here t d w a.value at knows (right w refl) a.right here.number b some (grounded_head program (code_of second) Codes.End (grounded_tail program (code_of first) (codes_of (second ∷ [])) h)), tt),
-      ))
-      g
+      subst (λ xs. AreTyped program slots result b (codes_of xs)) (same_right _ _ a.made) (
+        declare_sound program slots result here.slot (is_local here.slot t d at) here.number b some,
+        (initial_sound here t d w a.value at knows (right w refl) a.right here.number b some, tt),
+      )
 
   -- ---- any of them
 
@@ -238,28 +232,28 @@ module _ (program : Program) (slots : List Slot) (base : ℕ) (scope : Scope) (f
   pub written_right : (here : Here) (r : List ℕ → Bool) (w : Written) → IsHere program slots base here r → ((name : List ℕ) → r name ≡ false → takes_in name w ≡ false) → HasNumbers w → IsRight here.names w
   written_right here r w h less numbers = record { numbers = numbers; no_slot = takes_no_slot program slots base here r w h less }
 
-  pub simple_typed : (here : Here) (in_loop t b : Bool) (l : Line) (behind : List ℕ → Bool) (ss : List Stmt) → frame.result ≡ Ok result → (sort_of (length program.structs) result ≡ Scalar) ⊎ (result ≡ type.Void) → (in_loop ≡ true → b ≡ true) → IsHere program slots base here (in_front l behind) → IsProper l → IsTold t l behind → AreDeclared slots base (simple_behind scope frame here t l).locals → AreGrounded program (codes_of ss) → simple_made rules scope frame in_loop here t l ≡ Right ss → AreTyped program slots result b (codes_of ss)
-  simple_typed here in_loop t b (Line.Empty p) behind ss gives given inside h proper told declared g e = step_typed program slots result here.number step.Empty ss b (empty_sound program slots result) h.number e g
-  simple_typed here in_loop t b (Line.Block p ls) behind ss gives given inside h proper told declared g e = not_right _ ss e
-  simple_typed here in_loop t b (Line.Local p d init) behind ss gives given inside h proper told declared g e =
+  pub simple_typed : (here : Here) (in_loop t b : Bool) (l : Line) (behind : List ℕ → Bool) (ss : List Stmt) → frame.result ≡ Ok result → (sort_of (length program.structs) result ≡ Scalar) ⊎ (result ≡ type.Void) → (in_loop ≡ true → b ≡ true) → IsHere program slots base here (in_front l behind) → IsProper l → IsTold t l behind → AreDeclared slots base (simple_behind scope frame here t l).locals → simple_made rules scope frame in_loop here t l ≡ Right ss → AreTyped program slots result b (codes_of ss)
+  simple_typed here in_loop t b (Line.Empty p) behind ss gives given inside h proper told declared e = step_typed program slots result here.number step.Empty ss b (empty_sound program slots result) h.number e
+  simple_typed here in_loop t b (Line.Block p ls) behind ss gives given inside h proper told declared e = not_right _ ss e
+  simple_typed here in_loop t b (Line.Local p d init) behind ss gives given inside h proper told declared e =
       let behind_it = here_local program slots base scope frame known here t p d init behind h proper.0 told declared in
       local_typed here t b d init ss h.number (local_at slots base scope frame.locks here t d h.slot declared) behind_it.knows
       (perhaps_right (with_local scope frame.locks t d here) _ init behind_it (λ name n. or_left (perhaps_takes name init) (behind name) n) proper.1)
-      g e
-  simple_typed here in_loop t b (Line.Assign p at op x y) behind ss gives given inside h proper told declared g e =
+      e
+  simple_typed here in_loop t b (Line.Assign p at op x y) behind ss gives given inside h proper told declared e =
       let first = written_right here _ x h (λ name n. or_left (takes_in name x) _ (or_left (takes_at name (Line.Assign p at op x y)) _ n)) proper.0 in
       let second = written_right here _ y h (λ name n. or_right (takes_in name x) _ (or_left (takes_at name (Line.Assign p at op x y)) _ n)) proper.1 in
-      stated_typed program slots result here.number _ ss b (λ s is. sound.assigned here.names at op x y s result h.knows first second is) h.number e g
-  simple_typed here in_loop t b (Line.Plain p w) behind ss gives given inside h proper told declared g e =
+      stated_typed program slots result here.number _ ss b (λ s is. sound.assigned here.names at op x y s result h.knows first second is) h.number e
+  simple_typed here in_loop t b (Line.Plain p w) behind ss gives given inside h proper told declared e =
       let right = written_right here _ w h (λ name n. or_left (takes_at name (Line.Plain p w)) _ n) proper in
-      stated_typed program slots result here.number _ ss b (λ s is. sound.called here.names w s result h.knows right is) h.number e g
-  simple_typed here in_loop t b (Line.If p w one other) behind ss gives given inside h proper told declared g e = not_right _ ss e
-  simple_typed here in_loop t b (Line.While p w body) behind ss gives given inside h proper told declared g e = not_right _ ss e
-  simple_typed here in_loop t b (Line.For p init test step body) behind ss gives given inside h proper told declared g e = not_right _ ss e
-  simple_typed here in_loop t b (Line.Do p body w) behind ss gives given inside h proper told declared g e = not_right _ ss e
-  simple_typed here in_loop t b (Line.Switch p w cs) behind ss gives given inside h proper told declared g e = not_right _ ss e
-  simple_typed here in_loop t b (Line.Return p w) behind ss gives given inside h proper told declared g e =
+      stated_typed program slots result here.number _ ss b (λ s is. sound.called here.names w s result h.knows right is) h.number e
+  simple_typed here in_loop t b (Line.If p w one other) behind ss gives given inside h proper told declared e = not_right _ ss e
+  simple_typed here in_loop t b (Line.While p w body) behind ss gives given inside h proper told declared e = not_right _ ss e
+  simple_typed here in_loop t b (Line.For p init test step body) behind ss gives given inside h proper told declared e = not_right _ ss e
+  simple_typed here in_loop t b (Line.Do p body w) behind ss gives given inside h proper told declared e = not_right _ ss e
+  simple_typed here in_loop t b (Line.Switch p w cs) behind ss gives given inside h proper told declared e = not_right _ ss e
+  simple_typed here in_loop t b (Line.Return p w) behind ss gives given inside h proper told declared e =
       let right = perhaps_right here _ w h (λ name n. or_left (takes_at name (Line.Return p w)) _ n) proper in
-      stated_typed program slots result here.number _ ss b (λ s is. return_sound here p w s gives given h.knows right is) h.number e g
-  simple_typed here in_loop t b (Line.Break p) behind ss gives given inside h proper told declared g e = breaks program slots result p in_loop b here.number ss inside h.number e
-  simple_typed here in_loop t b (Line.Continue p) behind ss gives given inside h proper told declared g e = continues program slots result p in_loop b here.number ss inside h.number e
+      stated_typed program slots result here.number _ ss b (λ s is. return_sound here p w s gives given h.knows right is) h.number e
+  simple_typed here in_loop t b (Line.Break p) behind ss gives given inside h proper told declared e = breaks program slots result p in_loop b here.number ss inside h.number e
+  simple_typed here in_loop t b (Line.Continue p) behind ss gives given inside h proper told declared e = continues program slots result p in_loop b here.number ss inside h.number e

@@ -18,11 +18,10 @@ use Rattle.mdr_operand.specs.Written.{Written}
 use Rattle.mdr_body.specs.Statements.{Rules, stmt}
 use Rattle.mdr_sound_code.specs.Knowing.{KnowsLocals, HasNumbers, TakesNoSlot}
 use Rattle.mdr_sound_code.specs.Operands.{IsKnown}
-use Rattle.mdr_sound_bodies.specs.Grounded.{IsGrounded}
 
--- the step is right as a statement of any number, in a function with this result, if its types are in the table
+-- the step is right as a statement of any number, in a function with this result
 abbrev pub IsSoundStep : Program → List Slot → (result : Ty) → Step → Type 0
-IsSoundStep program slots result s = (n : ℕ) (in_loop : Bool) → 1 ≤ n → IsGrounded program (code_of (stmt n s)) → IsTyped program slots result in_loop (code_of (stmt n s))
+IsSoundStep program slots result s = (n : ℕ) (in_loop : Bool) → 1 ≤ n → IsTyped program slots result in_loop (code_of (stmt n s))
 
 -- what stands in a statement is written with numbers of its kinds, and takes no address of a slot
 pub record IsRight (names : List LocalName) (w : Written) : Type 0 where

@@ -1,5 +1,5 @@
 -- What is an lvalue has an address: that of what it names (C99 6.5.3.2).
-use Rattle.std.specs.Prelude.{◌≡◌, ℕ, Bool, true, false, ◌&&◌, ◌||◌, List, Some, None, codes}
+use Rattle.std.specs.Prelude.{◌≡◌, ℕ, Bool, true, false, ◌&&◌, ◌||◌, List, length, Some, None, codes}
 use Rattle.std.specs.Str.{bytes_eq}
 use Rattle.std.proofs.Common.{refl, ap, sym, ◌∙◌, subst}
 use Rattle.std.proofs.lemmas.Slice.Eq.{bytes_eq-Decides}
@@ -12,20 +12,20 @@ use Rattle.mdr_core.specs.declared.place.Place.{Place}
 use Rattle.mdr_core.specs.declared.program.Program.{Program}
 use Rattle.mdr_core.specs.declared.types.Ty.{Ty}
 use Rattle.mdr_core.specs.declared.types.Ty.TheVariants as type
-use Rattle.mdr_rich.specs.Code.{Term}
 use Rattle.mdr_rich.specs.Folds.{term_of, lvalue_of}
 use Rattle.mdr_core.specs.Layout.{chosen}
 use Rattle.mdr_core.specs.Typing.{Slot, One, IsTarget, IsElement}
-use Rattle.mdr_rich.specs.Typing.{Has, Designates, HasAddress}
+use Rattle.mdr_rich.specs.Typing.{Has, Designates, HasAddress, IsScalar}
 use Rattle.mdr_rich.proofs.Coded.{addr_is, decay_is, move_is, deref_is, index_is}
 use Rattle.mdr_operand.specs.declared.operator.PrefixOperator.TheVariants as prefix
 use Rattle.mdr_operand.specs.declared.room.LocalName.{LocalName}
 use Rattle.mdr_operand.specs.Forms.{address_by, address_of}
 use Rattle.mdr_operand.specs.Signs.{prefix_operator}
 use Rattle.mdr_operand.specs.Written.{Written}
-use Rattle.mdr_sound_code.specs.Knowing.{TakesNoSlot}
-use Rattle.mdr_sound_code.specs.Operands.{IsOf, IsInSlot}
-use Rattle.mdr_sound_code.proofs.Values.{of_term}
+use Rattle.mdr_sound_code.specs.Knowing.{IsFormed, TakesNoSlot}
+use Rattle.mdr_sound_code.specs.Operands.{IsOf, IsPointer, IsInSlot}
+use Rattle.mdr_sound_code.proofs.Layers.{pointer_formed}
+use Rattle.mdr_sound_code.proofs.Values.{of_term, no_literal}
 
 -- ---- where an address is taken, it isn't that of a slot
 
@@ -69,42 +69,56 @@ some_one t u e = cc
 
 module _ (program : Program) (slots : List Slot) where
   -- of what has one
-  taken_known : (l : Lval) (t : Ty) → Designates program slots (lvalue_of l) (One t) → HasAddress (lvalue_of l) → IsOf program slots (expr.Addr l) (type.Ptr t)
-  taken_known l t d a = of_term program slots _ _ (type.Ptr t) (addr_is l) (record { type = t; object = d; kept = a; is = refl })
+  taken_known : (l : Lval) (t : Ty) → Designates program slots (lvalue_of l) (One t) → HasAddress (lvalue_of l) → IsFormed program t → IsPointer program slots (expr.Addr l) t
+  taken_known l t d a f = record {
+    value = of_term program slots _ _ (type.Ptr t) (addr_is l) (record { type = t; object = d; kept = a; is = refl }, pointer_formed (length program.structs) t f);
+    formed = f;
+    no_literal = no_literal _ _ (addr_is l) tt;
+  }
 
-  target_by : (d : Term) (e : Expr) (t : Ty) → term_of e ≡ d → IsTarget (Has program slots d) (One t) → IsOf program slots e (type.Ptr t)
-  target_by d e t is h = of_term program slots e d (type.Ptr t) is (subst (λ u. Has program slots d (type.Ptr u)) (sym (some_one t h.type h.is)) h.pointer)
+  target_by : (e : Expr) (t : Ty) → IsTarget (Has program slots (term_of e)) (One t) → IsOf program slots e (type.Ptr t)
+  target_by e t h = subst (λ u. Has program slots (term_of e) (type.Ptr u)) (sym (some_one t h.type h.is)) h.pointer
 
   -- `&*p` is p
-  of_target : (l : Lval) (e : Expr) (t : Ty) → l ≡ lval.Deref e → Designates program slots (lvalue_of l) (One t) → IsOf program slots e (type.Ptr t)
-  of_target l e t is d = target_by (term_of e) e t refl (subst (λ x. Designates program slots x (One t)) (ap lvalue_of is ∙ deref_is e) d)
+  of_target : (l : Lval) (e : Expr) (t : Ty) → l ≡ lval.Deref e → Designates program slots (lvalue_of l) (One t) → IsFormed program t → IsPointer program slots e t
+  of_target l e t is d f =
+      let at = subst (λ x. Designates program slots x (One t)) (ap lvalue_of is ∙ deref_is e) d in
+      record { value = target_by e t at.0; formed = f; no_literal = at.1 }
 
   -- `&a[i]` is a + i
-  element_by : (l : Lval) (e : Expr) (t : Ty) → IsElement (Designates program slots (lvalue_of l)) (Has program slots (term_of e)) (One t) → IsOf program slots (expr.Move false (expr.Decay l) e) (type.Ptr t)
-  element_by l e t h =
-      of_term program slots _ _ (type.Ptr t) (move_is false (expr.Decay l) e) (record {
-        type = h.type;
-        kind = h.kind;
-        pointer = of_term program slots (expr.Decay l) _ (type.Ptr h.type) (decay_is l) (record { type = h.type; count = h.count; array = h.array; is = refl });
-        steps = h.index;
-        is = ap (λ u. type.Ptr u) (some_one t h.type h.is);
-      })
+  element_by : (l : Lval) (e : Expr) (t : Ty) → IsElement (Designates program slots (lvalue_of l)) (Has program slots (term_of e)) (One t) → IsFormed program t → IsOf program slots (expr.Move false (expr.Decay l) e) (type.Ptr t)
+  element_by l e t h f =
+      let same = some_one t h.type h.is in
+      of_term program slots _ _ (type.Ptr t) (move_is false (expr.Decay l) e) (
+        record {
+          type = h.type;
+          kind = h.kind;
+          pointer = of_term program slots (expr.Decay l) _ (type.Ptr h.type) (decay_is l) (record { type = h.type; count = h.count; array = h.array; is = refl }, subst (λ u. IsScalar program (type.Ptr u)) same (pointer_formed (length program.structs) t f));
+          steps = h.index;
+          is = ap (λ u. type.Ptr u) same;
+        },
+        no_literal _ _ (decay_is l) tt,
+      )
 
-  of_element : (m l : Lval) (e : Expr) (t : Ty) → m ≡ lval.Index l e → Designates program slots (lvalue_of m) (One t) → IsOf program slots (expr.Move false (expr.Decay l) e) (type.Ptr t)
-  of_element m l e t is d = element_by l e t (subst (λ x. Designates program slots x (One t)) (ap lvalue_of is ∙ index_is l e) d)
+  of_element : (m l : Lval) (e : Expr) (t : Ty) → m ≡ lval.Index l e → Designates program slots (lvalue_of m) (One t) → IsFormed program t → IsPointer program slots (expr.Move false (expr.Decay l) e) t
+  of_element m l e t is d f = record {
+    value = element_by l e t (subst (λ x. Designates program slots x (One t)) (ap lvalue_of is ∙ index_is l e) d).0 f;
+    formed = f;
+    no_literal = no_literal _ _ (move_is false (expr.Decay l) e) tt;
+  }
 
   -- any other by its layer
-  other : (l m : Lval) (t : Ty) → l ≡ m → Designates program slots (lvalue_of l) (One t) → HasAddress (lvalue_of l) → IsOf program slots (expr.Addr m) (type.Ptr t)
-  other l m t is d a = taken_known m t (subst (λ x. Designates program slots (lvalue_of x) (One t)) is d) (subst (λ x. HasAddress (lvalue_of x)) is a)
+  other : (l m : Lval) (t : Ty) → l ≡ m → Designates program slots (lvalue_of l) (One t) → HasAddress (lvalue_of l) → IsFormed program t → IsPointer program slots (expr.Addr m) t
+  other l m t is d a h = taken_known m t (subst (λ x. Designates program slots (lvalue_of x) (One t)) is d) (subst (λ x. HasAddress (lvalue_of x)) is a) h
 
-  address_by_known : (l : Lval) (f : Lval-F Expr Lval) (t : Ty) → out-Lval l ≡ f → Designates program slots (lvalue_of l) (One t) → HasAddress (lvalue_of l) → IsOf program slots (address_by f) (type.Ptr t)
-  address_by_known l (Lval-F.Slot i) t is d a = other l (lval.Slot i) t (sym (roll-out-Lval l) ∙ ap roll-Lval is ∙ lval.rolls-Slot i) d a
-  address_by_known l (Lval-F.Object i) t is d a = other l (lval.Object i) t (sym (roll-out-Lval l) ∙ ap roll-Lval is ∙ lval.rolls-Object i) d a
-  address_by_known l (Lval-F.Global g) t is d a = other l (lval.Global g) t (sym (roll-out-Lval l) ∙ ap roll-Lval is ∙ lval.rolls-Global g) d a
-  address_by_known l (Lval-F.Deref e) t is d a = of_target l e t (sym (roll-out-Lval l) ∙ ap roll-Lval is ∙ lval.rolls-Deref e) d
-  address_by_known l (Lval-F.Member m f) t is d a = other l (lval.Member m f) t (sym (roll-out-Lval l) ∙ ap roll-Lval is ∙ lval.rolls-Member m f) d a
-  address_by_known l (Lval-F.Index m e) t is d a = of_element l m e t (sym (roll-out-Lval l) ∙ ap roll-Lval is ∙ lval.rolls-Index m e) d
+  address_by_known : (l : Lval) (f : Lval-F Expr Lval) (t : Ty) → out-Lval l ≡ f → Designates program slots (lvalue_of l) (One t) → HasAddress (lvalue_of l) → IsFormed program t → IsPointer program slots (address_by f) t
+  address_by_known l (Lval-F.Slot i u) t is d a h = other l (lval.Slot i u) t (sym (roll-out-Lval l) ∙ ap roll-Lval is ∙ lval.rolls-Slot i u) d a h
+  address_by_known l (Lval-F.Object i u) t is d a h = other l (lval.Object i u) t (sym (roll-out-Lval l) ∙ ap roll-Lval is ∙ lval.rolls-Object i u) d a h
+  address_by_known l (Lval-F.Global g u) t is d a h = other l (lval.Global g u) t (sym (roll-out-Lval l) ∙ ap roll-Lval is ∙ lval.rolls-Global g u) d a h
+  address_by_known l (Lval-F.Deref e) t is d a h = of_target l e t (sym (roll-out-Lval l) ∙ ap roll-Lval is ∙ lval.rolls-Deref e) d h
+  address_by_known l (Lval-F.Member m f u) t is d a h = other l (lval.Member m f u) t (sym (roll-out-Lval l) ∙ ap roll-Lval is ∙ lval.rolls-Member m f u) d a h
+  address_by_known l (Lval-F.Index m e) t is d a h = of_element l m e t (sym (roll-out-Lval l) ∙ ap roll-Lval is ∙ lval.rolls-Index m e) d h
 
-  pub address_of_known : (l : Lval) (t : Ty) → Designates program slots (lvalue_of l) (One t) → HasAddress (lvalue_of l) → IsOf program slots (address_of l) (type.Ptr t)
+  pub address_of_known : (l : Lval) (t : Ty) → Designates program slots (lvalue_of l) (One t) → HasAddress (lvalue_of l) → IsFormed program t → IsPointer program slots (address_of l) t
   unfolding address_of
-  address_of_known l t d a = address_by_known l (out-Lval l) t refl d a
+  address_of_known l t d a h = address_by_known l (out-Lval l) t refl d a h

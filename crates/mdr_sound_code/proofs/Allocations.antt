@@ -1,5 +1,5 @@
 -- An allocation is a call of the program, if the type that it names is in the type table (C99 6.2.5).
-use Rattle.std.proofs.Common.{◌≡◌, ℕ, List, [], ◌∷◌, length, map, Option, Some, None, slice_get, ◌==◌, refl, ap, sym, subst}
+use Rattle.std.proofs.Common.{◌≡◌, ℕ, List, [], ◌∷◌, length, map, Option, Some, None, slice_get, ◌==◌, refl, subst}
 use Rattle.std.proofs.lemmas.Option.{none-some, same_Some}
 use Rattle.mdr_core.specs.declared.kind.Kind.TheVariants.{U64}
 use Rattle.mdr_core.specs.declared.place.Place.{Place}
@@ -9,9 +9,8 @@ use Rattle.mdr_core.specs.declared.types.Ty.TheVariants as type
 use Rattle.mdr_rich.specs.Code.{Term}
 use Rattle.mdr_rich.specs.Folds.{term_of}
 use Rattle.mdr_core.specs.Services.{Service as CoreService, offered, service_numbered}
-use Rattle.mdr_core.specs.Types.{HasNumber}
-use Rattle.mdr_core.specs.Typing.{Slot, NamesObject}
-use Rattle.mdr_rich.specs.Typing.{NamesHandler}
+use Rattle.mdr_core.specs.Typing.{Slot}
+use Rattle.mdr_rich.specs.Typing.{IsScalar, NamesHandler}
 use Rattle.mdr_call.specs.declared.parts.Argument.{Argument}
 use Rattle.mdr_call.specs.declared.parts.Argument.TheVariants as argument
 use Rattle.mdr_call.specs.declared.parts.TypedCall.{TypedCall}
@@ -35,7 +34,7 @@ module _ (program : Program) (slots : List Slot) (names : List LocalName) where
   abbrev structs : ℕ
   structs = length program.structs
 
-  module _ (scope : Scope) (p : Place) (call : TypedCall) (in_table : (t : Ty) → call.form.shape ≡ Some t → HasNumber program t) where
+  module _ (scope : Scope) (p : Place) (call : TypedCall) where
     allocation_known : (s : CoreService) (n : ℕ) (counts : List Ty) (args : List Argument) (t : Ty) → service_numbered n ≡ Some s → offered s (Some t) None ≡ Some (record { params = counts; result = type.Ptr t })
         → ((ts : List Term) → NamesHandler s ts) → length counts ≡ length args → AreScalars structs counts → AreKnownArguments program slots names args → IsWritten program t
         → allocation_of scope p n counts args t ≡ Right call → IsKnownCall program slots names call
@@ -45,8 +44,8 @@ module _ (program : Program) (slots : List Slot) (names : List LocalName) where
         let b = after_right (arguments_as p (type.Void ∷ counts) args) (λ es. Right (allocated n t es)) call a.made in
         let all = arguments_as_known program slots names p type.Void counts args b.value count f h b.right in
         let made : allocated n t b.value ≡ call = same_right _ _ b.made in
-        let object : NamesObject program (Some t) = record { formed = pointer_formed structs t (has_cells program scope p t a.value written a.right); in_table = in_table t (ap (λ (c : TypedCall). c.form.shape) (sym made)) } in
-        subst (IsKnownCall program slots names) made (service_known program slots names s n b.value (Some t) None counts (type.Ptr t) numbered offers all (names_handler (map term_of b.value)) object)
+        let object : IsScalar program (type.Ptr t) = pointer_formed structs t (has_cells program scope p t a.value written a.right) in
+        subst (IsKnownCall program slots names) made (service_known program slots names s n b.value (Some t) None counts (type.Ptr t) numbered offers all (names_handler (map term_of b.value)) object (λ h. object))
 
     type_known : (o : Option Argument) (t : Ty) → ((a : Argument) → o ≡ Some a → IsKnownArgument program slots names a) → type_argument o ≡ Some t → IsWritten program t
     type_known None t h q = absurd (none-some t q)

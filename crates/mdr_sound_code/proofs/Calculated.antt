@@ -30,7 +30,7 @@ use Rattle.mdr_binary.specs.Binaries.{arithmetic, shifted, calculated, numbers_c
 use Rattle.mdr_sound_code.specs.Operands.{IsOf, IsPointer, IsKnown}
 use Rattle.mdr_sound_code.proofs.Rights.{not_right, same_right, both_right, chosen_right}
 use Rattle.mdr_sound_code.proofs.Alike.{left_of, alike_same}
-use Rattle.mdr_sound_code.proofs.Values.{of_term, integer_known, pointer_known, at_kind_known}
+use Rattle.mdr_sound_code.proofs.Values.{of_term, no_literal, integer_known, pointer_known, at_kind_known}
 
 module _ (program : Program) (slots : List Slot) (names : List LocalName) (w : Written) where
   -- ---- numbers
@@ -93,8 +93,9 @@ module _ (program : Program) (slots : List Slot) (names : List LocalName) (w : W
   moved_known : (back : Bool) (s : Pointer) (n : Integer) → IsPointer program slots s.value s.ty → IsInteger n → IsKnown program slots names w (moved back s n)
   unfolding moved
   moved_known back s n h i = record {
-    value = of_term program slots _ _ (type.Ptr s.ty) (coded.move_is back s.value n.value) (record { type = s.ty; kind = n.kind; pointer = h.value; steps = i; is = refl });
+    value = of_term program slots _ _ (type.Ptr s.ty) (coded.move_is back s.value n.value) (record { type = s.ty; kind = n.kind; pointer = h.value; steps = i; is = refl }, h.no_literal);
     formed = h.formed;
+    no_literal = no_literal _ _ (coded.move_is back s.value n.value) tt;
   }
 
   distance_known : (s t : Pointer) → s.ty ≡ t.ty → IsPointer program slots s.value s.ty → IsPointer program slots t.value t.ty → IsKnown program slots names w (distance s t)

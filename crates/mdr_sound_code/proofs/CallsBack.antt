@@ -19,7 +19,7 @@ use Rattle.mdr_faults.specs.Faults.{Right, after}
 use Rattle.mdr_operand.specs.declared.room.LocalName.{LocalName}
 use Rattle.mdr_operand.specs.Forms.{needed}
 use Rattle.mdr_sound_code.specs.Operands.{IsHandle, IsOf}
-use Rattle.mdr_sound_code.proofs.Formed.{AreScalars, function_parts}
+use Rattle.mdr_sound_code.proofs.Formed.{AreScalars, IsResult, function_parts}
 use Rattle.mdr_sound_code.proofs.FunctionCalls.{IsKnownCall, handle_known}
 use Rattle.mdr_sound_code.proofs.GivenArguments.{IsKnownArgument, AreKnownArguments, arguments_as_known}
 use Rattle.mdr_sound_code.proofs.Rights.{not_right, same_right, after_right, chosen_right, needed_right}
@@ -36,15 +36,15 @@ module _ (program : Program) (slots : List Slot) (names : List LocalName) (p : P
   called_known (argument.Type t) h k q = absurd (none-some h q)
 
   -- with one parameter
-  back_by : (h : Handle) (r : Ty) (params : List Ty) (rest : List Argument) (es : List Expr) → h.types ≡ r ∷ params → length h.types ≡ 2 → length rest ≡ 1 → AreScalars structs params
+  back_by : (h : Handle) (r : Ty) (params : List Ty) (rest : List Argument) (es : List Expr) → h.types ≡ r ∷ params → length h.types ≡ 2 → length rest ≡ 1 → AreScalars structs params → IsResult structs r
       → AreKnownArguments program slots names rest → IsHandle program slots h.value h.types → arguments_as p h.types rest ≡ Right es → IsKnownCall program slots names (calling_back h es)
-  back_by h r [] rest es is two one formed known handle e = let many : length h.types ≡ 1 = ap length is in absurd (omega (arith, many, two))
-  back_by h r (t ∷ u ∷ params) rest es is two one formed known handle e = let many : length h.types ≡ suc (suc (suc (length params))) = ap length is in absurd (omega (arith, many, two))
-  back_by h r (t ∷ []) rest es is two one formed known handle e =
+  back_by h r [] rest es is two one formed g known handle e = let many : length h.types ≡ 1 = ap length is in absurd (omega (arith, many, two))
+  back_by h r (t ∷ u ∷ params) rest es is two one formed g known handle e = let many : length h.types ≡ suc (suc (suc (length params))) = ap length is in absurd (omega (arith, many, two))
+  back_by h r (t ∷ []) rest es is two one formed g known handle e =
       let all = arguments_as_known program slots names p r (t ∷ []) rest es (sym one) formed known (subst (λ (ts : List Ty). arguments_as p ts rest ≡ Right es) is e) in
       let value = subst (λ (ts : List Ty). IsOf program slots h.value (type.Fun ts)) is handle.value in
       subst (λ (ts : List Ty). IsKnownCall program slots names (plain_call (callee.Service 15) (h.value ∷ es) (result_of ts))) (sym is)
-      (inr (record { back = refl; no_type = refl; no_text = refl; param = t; args = (value, all) }))
+      (record { gives = inr (record { back = refl; no_type = refl; no_text = refl; param = t; args = (value, all) }); returns = g })
 
   module _ (call : TypedCall) where
     kcall_by_known : (args : List Argument) → length args ≡ 2 → AreKnownArguments program slots names args → kcall_by p (first_off args) ≡ Right call → IsKnownCall program slots names call
@@ -58,7 +58,7 @@ module _ (program : Program) (slots : List Slot) (names : List LocalName) (p : P
         let parts = function_parts structs h.value.types handle.formed in
         let one : length rest ≡ 1 = omega (arith, two) in
         subst (IsKnownCall program slots names) (same_right _ _ b.made)
-        (back_by h.value parts.result parts.params rest b.value parts.is (eqb-true (length h.value.types) 2 d.holds) one parts.scalars known.1 handle b.right)
+        (back_by h.value parts.result parts.params rest b.value parts.is (eqb-true (length h.value.types) 2 d.holds) one parts.scalars parts.returns known.1 handle b.right)
 
     pub kcall_known : (args : List Argument) → AreKnownArguments program slots names args → kcall p args ≡ Right call → IsKnownCall program slots names call
     unfolding kcall

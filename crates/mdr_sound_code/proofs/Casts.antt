@@ -5,8 +5,7 @@ use Rattle.std.proofs.lemmas.Option.{none-some}
 use Rattle.mdr_rich.specs.declared.code.Expr.{Expr}
 use Rattle.mdr_core.specs.declared.place.Place.{Place}
 use Rattle.mdr_core.specs.declared.program.Program.{Program}
-use Rattle.mdr_core.specs.declared.types.Ty.{Ty, out-Ty}
-use Rattle.mdr_core.specs.declared.types.Ty.TheOpen.{Ty-F}
+use Rattle.mdr_core.specs.declared.types.Ty.{Ty}
 use Rattle.mdr_core.specs.declared.types.Ty.TheVariants as type
 use Rattle.mdr_core.specs.Types.{is_scalar, is_scalar_by}
 use Rattle.mdr_core.specs.Typing.{Slot}
@@ -18,29 +17,15 @@ use Rattle.mdr_operand.specs.declared.operand.Operand.{Operand}
 use Rattle.mdr_operand.specs.declared.operand.Scalar.{Scalar}
 use Rattle.mdr_operand.specs.declared.room.LocalName.{LocalName}
 use Rattle.mdr_operand.specs.Converting.{cast_as, value_of_type, cast_value, cast_to, cast_rule}
-use Rattle.mdr_operand.specs.Forms.{needed, scalar_by, scalar_of}
+use Rattle.mdr_operand.specs.Forms.{needed, scalar_of}
 use Rattle.mdr_operand.specs.Written.{Written}
 use Rattle.mdr_sound_code.specs.Knowing.{IsFormed, Knows}
 use Rattle.mdr_sound_code.specs.Operands.{IsKnownValue, IsKnown}
-use Rattle.mdr_sound_code.proofs.Converted.{cast_known}
+use Rattle.mdr_sound_code.proofs.Converted.{cast_known, cast_pointer}
 use Rattle.mdr_sound_code.proofs.Formed.{formed_scalar}
 use Rattle.mdr_sound_code.proofs.Rights.{after_right, both_right, needed_right, same_right}
 use Rattle.mdr_sound_code.proofs.TypesWritten.{IsWritten, type_named_written}
-use Rattle.mdr_sound_code.proofs.Values.{scalar_of_known}
-
--- a type of which there are values is scalar
-scalar_layer : (e : Expr) (l : Ty-F Ty) (v : Scalar) → scalar_by e l ≡ Some v → is_scalar_by l ≡ true
-scalar_layer e (Ty-F.Int k) v q = refl
-scalar_layer e Ty-F.Lock v q = absurd (none-some v q)
-scalar_layer e (Ty-F.Struct s) v q = absurd (none-some v q)
-scalar_layer e (Ty-F.Ptr t) v q = refl
-scalar_layer e Ty-F.VoidPtr v q = refl
-scalar_layer e (Ty-F.Fun ts) v q = refl
-scalar_layer e Ty-F.Void v q = absurd (none-some v q)
-
-scalar_valued : (e : Expr) (t : Ty) (v : Scalar) → scalar_of e t ≡ Some v → is_scalar t ≡ true
-unfolding scalar_of
-scalar_valued e t v q = scalar_layer e (out-Ty t) v q
+use Rattle.mdr_sound_code.proofs.Values.{scalar_of_known, scalar_valued}
 
 void_valued : {C : Type 0} (e : Expr) (t : Ty) (v : Scalar) → t ≡ type.Void → scalar_of e t ≡ Some v → C
 void_valued e t v is q = let lost : false ≡ true = sym (ap is_scalar is ∙ ap is_scalar_by type.outs-Void) ∙ scalar_valued e t v q in absurd cc
@@ -55,7 +40,7 @@ module _ (program : Program) (slots : List Slot) (names : List LocalName) (w u :
   cast_by t x None v is s h q = absurd (none-some v q)
   cast_by t x (Some e) v is s h q =
       let formed = valued_formed program e t v s q in
-      scalar_of_known program slots e t v (cast_known program slots names u t x e is h (formed_scalar program t formed (scalar_valued e t v q))) formed q
+      scalar_of_known program slots e t v (cast_known program slots names u t x e is h (formed_scalar program t formed (scalar_valued e t v q))) formed (λ y same. cast_pointer program slots names u t y x e same is h) q
 
   cast_to_known : (p : Place) (t : Ty) (x y : Operand) → IsWritten program t → IsKnown program slots names u x → cast_to p t x ≡ Right y → IsKnown program slots names w y
   unfolding cast_to

@@ -12,6 +12,8 @@ use Rattle.mdr_core.specs.declared.types.Ty.TheVariants as type
 use Rattle.mdr_core.specs.Layout.{chosen}
 use Rattle.mdr_core.specs.Types.{Scalar as ScalarSort, is_pointer_by, sort_of}
 use Rattle.mdr_core.specs.Typing.{Slot}
+use Rattle.mdr_rich.specs.Folds.{term_of}
+use Rattle.mdr_rich.specs.Typing.{IsNoLiteral}
 use Rattle.mdr_rich.proofs.Coded.{to_void_is, from_void_is}
 use Rattle.mdr_faults.specs.Alike.{is_alike, are_alike}
 use Rattle.mdr_faults.specs.Faults.{Right}
@@ -26,7 +28,7 @@ use Rattle.mdr_sound_code.specs.Operands.{IsOf, IsPointer, IsHandle, IsKnownValu
 use Rattle.mdr_sound_code.proofs.Alike.{alike_same, alikes_same}
 use Rattle.mdr_sound_code.proofs.Layers.{int_from, ptr_from, void_ptr_from, fun_from}
 use Rattle.mdr_sound_code.proofs.Rights.{needed_right}
-use Rattle.mdr_sound_code.proofs.Values.{of_term, value_known, at_kind_known, null_known}
+use Rattle.mdr_sound_code.proofs.Values.{of_term, no_literal, value_known, at_kind_known, null_known}
 
 -- what is chosen beside nothing
 record Taken {A : Type 0} (test : Bool) (x y : A) : Type 0 where
@@ -121,6 +123,25 @@ module _ (program : Program) (slots : List Slot) where
     pub cast_known : (t : Ty) (x : Operand) (e : Expr) → cast_as x t ≡ Some e → IsKnown program slots names w x → Scalars t → IsOf program slots e t
     unfolding cast_as
     cast_known t x e q h f = value_as_known x t e (value_of x) refl f h q
+
+    -- a cast to a pointer to objects gives no literal
+    value_pointer : (t u : Ty) (v : Scalar) (e : Expr) → t ≡ type.Ptr u → IsKnownValue program slots v → scalar_as v t ≡ Some e → IsNoLiteral (term_of e)
+    unfolding scalar_as
+    value_pointer t u (scalar.Number d k) e is h q = absurd (none-some e (subst (λ l. number_as d k l ≡ Some e) (ap out-Ty is ∙ type.outs-Ptr u) q))
+    value_pointer t u (scalar.Pointer d o) e is h q =
+        let c = taken (is_alike o u) d e (subst (λ l. pointer_as d o l ≡ Some e) (ap out-Ty is ∙ type.outs-Ptr u) q) in
+        subst (λ x. IsNoLiteral (term_of x)) c.same h.no_literal
+    value_pointer t u (scalar.Opaque d) e is h q =
+        subst (λ x. IsNoLiteral (term_of x)) (same_Some _ _ (subst (λ l. opaque_as d l ≡ Some e) (ap out-Ty is ∙ type.outs-Ptr u) q)) (no_literal _ _ (from_void_is u d) tt)
+    value_pointer t u (scalar.Handle d ts) e is h q = absurd (none-some e (subst (λ l. handle_as d ts l ≡ Some e) (ap out-Ty is ∙ type.outs-Ptr u) q))
+
+    pointer_by : (t u : Ty) (x : Operand) (e : Expr) (o : Option Scalar) → value_of x ≡ o → t ≡ type.Ptr u → IsKnown program slots names w x → value_as o t ≡ Some e → IsNoLiteral (term_of e)
+    pointer_by t u x e None at is h q = absurd (none-some e q)
+    pointer_by t u x e (Some v) at is h q = value_pointer t u v e is (value_known program slots names w x v h at) q
+
+    pub cast_pointer : (t u : Ty) (x : Operand) (e : Expr) → t ≡ type.Ptr u → cast_as x t ≡ Some e → IsKnown program slots names w x → IsNoLiteral (term_of e)
+    unfolding cast_as
+    cast_pointer t u x e is q h = pointer_by t u x e (value_of x) refl is h q
 
     first_known : (t : Ty) (x : Operand) (e : Expr) (o : Option Expr) → null_as t ≡ o → first_of o (cast_as x t) ≡ Some e → IsKnown program slots names w x → Scalars t → IsOf program slots e t
     first_known t x e None is q h f = cast_known t x e q h f

@@ -1,5 +1,5 @@
 -- Elements of what is known are known (C99 6.5.2.1).
-use Rattle.std.specs.Prelude.{◌≡◌, ℕ, Bool, true, false, List, Some}
+use Rattle.std.specs.Prelude.{◌≡◌, ℕ, Bool, true, false, List, length, Some}
 use Rattle.std.proofs.Common.{inl, refl, sym, subst}
 use Rattle.std.proofs.lemmas.Option.{none-some, same_Some}
 use Rattle.mdr_rich.specs.declared.code.Expr.TheVariants as expr
@@ -25,15 +25,16 @@ use Rattle.mdr_operand.specs.Written.{Written}
 use Rattle.mdr_postfix.specs.declared.located.Located.{Located}
 use Rattle.mdr_postfix.specs.Subscripts.{is_array, array_of, element_in, element_of_array, element_behind, element_at, element_of_pointer, element_by, element, subscript_of, subscript_rule}
 use Rattle.mdr_sound_code.specs.Operands.{IsOf, IsPointer, IsKnownArray, IsKnown}
+use Rattle.mdr_sound_code.proofs.Layers.{pointer_formed}
 use Rattle.mdr_sound_code.proofs.Prefixes.{deref_known}
 use Rattle.mdr_sound_code.proofs.Rights.{after_right, both_right, needed_right, chosen_right, same_right}
-use Rattle.mdr_sound_code.proofs.Values.{of_term, integer_known, pointer_known}
+use Rattle.mdr_sound_code.proofs.Values.{of_term, no_literal, integer_known, pointer_known}
 
 module _ (program : Program) (slots : List Slot) (names : List LocalName) (w : Written) where
   -- an element of an array by its lvalue
   in_array : (i : Integer) (l : Lval) (t : Ty) (n : ℕ) → IsKnownArray program slots l t n → IsOf program slots i.value (type.Int i.kind) → IsKnown program slots names w (element_in i (record { lval = l; ty = t }))
   in_array i l t n h j = record {
-    designates = subst (λ d. Designates program slots d (One t)) (sym (index_is l i.value)) (record { type = t; count = n; kind = i.kind; array = h.designates; index = j; is = refl });
+    designates = subst (λ d. Designates program slots d (One t)) (sym (index_is l i.value)) (record { type = t; count = n; kind = i.kind; array = h.designates; index = j; is = refl }, pointer_formed (length program.structs) t h.formed);
     formed = h.formed;
     kept = inl (subst HasAddress (sym (index_is l i.value)) h.kept);
   }
@@ -41,8 +42,9 @@ module _ (program : Program) (slots : List Slot) (names : List LocalName) (w : W
   -- an element by a pointer
   behind : (i : Integer) (x : Pointer) → IsPointer program slots x.value x.ty → IsOf program slots i.value (type.Int i.kind) → IsKnown program slots names w (element_behind i x)
   behind i x h j = deref_known program slots names w (expr.Move false x.value i.value) x.ty (record {
-    value = of_term program slots _ _ (type.Ptr x.ty) (move_is false x.value i.value) (record { type = x.ty; kind = i.kind; pointer = h.value; steps = j; is = refl });
+    value = of_term program slots _ _ (type.Ptr x.ty) (move_is false x.value i.value) (record { type = x.ty; kind = i.kind; pointer = h.value; steps = j; is = refl }, h.no_literal);
     formed = h.formed;
+    no_literal = no_literal _ _ (move_is false x.value i.value) tt;
   })
 
   -- the array, or the pointer, is what u comes to, and the index what v does

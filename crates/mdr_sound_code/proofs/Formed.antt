@@ -8,11 +8,11 @@ use Rattle.mdr_core.specs.declared.types.Ty.TheOpen.{Ty-F}
 use Rattle.mdr_core.specs.declared.types.Ty.TheVariants as type
 use Rattle.mdr_core.specs.Layout.{chosen}
 use Rattle.mdr_core.specs.Sound.{IsObjectSort}
-use Rattle.mdr_core.specs.Types.{Sort, Wrong, Empty, Locks, Aggregate, Scalar, is_scalar_sort, function_sort, is_scalar, is_scalar_by, sort_layer, sort_of}
+use Rattle.mdr_core.specs.Types.{Sort, Wrong, Empty, Locks, Aggregate, Scalar, is_scalar_sort, is_result_sort, pointer_sort, function_sort, is_scalar, is_scalar_by, sort_layer, sort_of}
 use Rattle.mdr_core.proofs.Laid.{sort_is}
 use Rattle.mdr_sound_code.specs.Knowing.{IsFormed}
 use Rattle.mdr_sound_code.proofs.Alike.{right_of, left_of}
-use Rattle.mdr_sound_code.proofs.Layers.{ptr_from, fun_from, pointed_formed, pointer_formed, function_formed}
+use Rattle.mdr_sound_code.proofs.Layers.{sort_at, ptr_from, fun_from, pointed_formed, pointer_formed, function_formed}
 
 -- ---- scalars
 
@@ -32,6 +32,39 @@ scalar_at n t Ty-F.Void is f h = absurd cc
 -- a type of scalars that is formed has their sort
 pub formed_scalar : (program : Program) (t : Ty) → IsFormed program t → IsTrue (is_scalar t) → sort_of (length program.structs) t ≡ Scalar
 formed_scalar program t f h = scalar_at (length program.structs) t (out-Ty t) refl f h
+
+-- ---- what functions give: nothing, or a scalar
+
+result_pointer : (s : Sort) → is_result_sort (pointer_sort s) ≡ true → pointer_sort s ≡ Scalar
+result_pointer Wrong h = absurd cc
+result_pointer Empty h = absurd cc
+result_pointer Locks h = refl
+result_pointer Aggregate h = refl
+result_pointer Scalar h = refl
+
+result_chosen : (b : Bool) → is_result_sort (chosen b Scalar Wrong) ≡ true → chosen b Scalar Wrong ≡ Scalar
+result_chosen true h = refl
+result_chosen false h = absurd cc
+
+result_function : (ss : List Sort) → is_result_sort (function_sort ss) ≡ true → function_sort ss ≡ Scalar
+result_function [] h = absurd cc
+result_function (r ∷ ps) h = result_chosen _ h
+
+result_at : (n : ℕ) (t : Ty) (l : Ty-F Ty) → out-Ty t ≡ l → is_result_sort (sort_of n t) ≡ true → IsTrue (is_scalar_by l) → sort_of n t ≡ Scalar
+result_at n t (Ty-F.Int k) is r h = sort_at n t (Ty-F.Int k) is
+result_at n t Ty-F.Lock is r h = absurd cc
+result_at n t (Ty-F.Struct s) is r h = absurd cc
+result_at n t (Ty-F.Ptr u) is r h = let s = sort_at n t (Ty-F.Ptr u) is in s ∙ result_pointer (sort_of n u) (subst (λ x. is_result_sort x ≡ true) s r)
+result_at n t Ty-F.VoidPtr is r h = sort_at n t Ty-F.VoidPtr is
+result_at n t (Ty-F.Fun ts) is r h = let s = sort_at n t (Ty-F.Fun ts) is in s ∙ result_function (map (sort_of n) ts) (subst (λ x. is_result_sort x ≡ true) s r)
+result_at n t Ty-F.Void is r h = absurd cc
+
+-- where it is a scalar it is one of the program
+abbrev pub IsResult : ℕ → Ty → Type 0
+IsResult n t = IsTrue (is_scalar t) → sort_of n t ≡ Scalar
+
+pub void_result : (n : ℕ) → IsResult n type.Void
+void_result n h = absurd (let lost : false ≡ true = sym (ap is_scalar_by type.outs-Void) ∙ h in cc)
 
 -- ---- functions
 
@@ -61,10 +94,13 @@ pub record IsFunction (n : ℕ) (ts : List Ty) : Type 0 where
   pub params : List Ty
   pub is : ts ≡ result ∷ params
   pub scalars : AreScalars n params
+  pub returns : IsResult n result
 
 function_at : (n : ℕ) (ts : List Ty) → function_sort (map (sort_of n) ts) ≡ Scalar → IsFunction n ts
 function_at n [] e = absurd cc
-function_at n (r ∷ ps) e = record { result = r; params = ps; is = refl; scalars = all_scalars n ps (right_of _ _ (chosen_scalar _ e)) }
+function_at n (r ∷ ps) e =
+    let sorts = chosen_scalar _ e in
+    record { result = r; params = ps; is = refl; scalars = all_scalars n ps (right_of _ _ sorts); returns = λ h. result_at n r (out-Ty r) refl (left_of _ _ sorts) h }
 
 pub function_parts : (n : ℕ) (ts : List Ty) → sort_of n (type.Fun ts) ≡ Scalar → IsFunction n ts
 function_parts n ts e = function_at n ts (sym (sort_is n (type.Fun ts) ∙ ap (λ l. sort_layer n (map-Ty Ty Sort (sort_of n) l)) (type.outs-Fun ts)) ∙ e)

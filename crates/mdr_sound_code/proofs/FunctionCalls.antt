@@ -30,7 +30,7 @@ use Rattle.mdr_operand.specs.declared.room.LocalName.{LocalName}
 use Rattle.mdr_operand.specs.Forms.{needed, value_of}
 use Rattle.mdr_operand.specs.Written.{Written}
 use Rattle.mdr_sound_code.specs.Operands.{IsHandle, IsFunctionNamed, IsKnownValue, IsKnown}
-use Rattle.mdr_sound_code.proofs.Formed.{AreScalars, function_parts}
+use Rattle.mdr_sound_code.proofs.Formed.{AreScalars, IsResult, function_parts}
 use Rattle.mdr_sound_code.proofs.GivenArguments.{AreKnownArguments, converted_all}
 use Rattle.mdr_sound_code.proofs.Rights.{same_right, after_right, needed_right}
 use Rattle.mdr_sound_code.proofs.Values.{value_known}
@@ -80,13 +80,14 @@ module _ (program : Program) (slots : List Slot) (names : List LocalName) where
 
   -- ---- calls
 
-  abbrev pub IsKnownCall : TypedCall → Type 0
-  IsKnownCall call = CallGives program slots (call_of call.form) call.result
+  pub record IsKnownCall (call : TypedCall) : Type 0 where
+    pub gives : CallGives program slots (call_of call.form) call.result
+    pub returns : IsResult (length program.structs) call.result
 
   abbrev param_types : Func → List Ty
   param_types func = map (λ (x : Param). x.ty) func.params
 
-  direct_known : (f : ℕ) (r : Ty) (params : List Ty) (es : List Expr) → IsFunctionNamed program f (r ∷ params) → HaveAll program slots (map term_of es) params → IsKnownCall (plain_call (callee.Direct f) es r)
+  direct_known : (f : ℕ) (r : Ty) (params : List Ty) (es : List Expr) → IsFunctionNamed program f (r ∷ params) → HaveAll program slots (map term_of es) params → CallGives program slots (call_of (plain_call (callee.Direct f) es r).form) r
   direct_known f r params es h all =
       let types : h.func.result ∷ param_types h.func ≡ r ∷ params = same_functions _ _ h.types in
       let result : h.func.result ≡ r = cc in
@@ -98,7 +99,7 @@ module _ (program : Program) (slots : List Slot) (names : List LocalName) where
         is = sym result;
       }
 
-  called_known : (c : Callee) (r : Ty) (params : List Ty) (es : List Expr) → IsCalled c (r ∷ params) → HaveAll program slots (map term_of es) params → IsKnownCall (plain_call c es r)
+  called_known : (c : Callee) (r : Ty) (params : List Ty) (es : List Expr) → IsCalled c (r ∷ params) → HaveAll program slots (map term_of es) params → CallGives program slots (call_of (plain_call c es r).form) r
   called_known (callee.Direct f) r params es h all = direct_known f r params es h all
   called_known (callee.Through e) r params es h all = record { params = params; pointer = h.value; call_is = record { no_type = refl; no_text = refl; args = all } }
   called_known (callee.Service n) r params es h all = absurd h
@@ -109,18 +110,18 @@ module _ (program : Program) (slots : List Slot) (names : List LocalName) where
   called_formed (callee.Service n) ts h = absurd h
 
   module _ (p : Place) (args : List Argument) (known : AreKnownArguments program slots names args) (call : TypedCall) where
-    call_by_types : (c : Callee) (ts : List Ty) (r : Ty) (params : List Ty) → ts ≡ r ∷ params → AreScalars (length program.structs) params → IsCalled c ts → call_with p args (record { callee = c; types = ts }) ≡ Right call → IsKnownCall call
+    call_by_types : (c : Callee) (ts : List Ty) (r : Ty) (params : List Ty) → ts ≡ r ∷ params → AreScalars (length program.structs) params → IsResult (length program.structs) r → IsCalled c ts → call_with p args (record { callee = c; types = ts }) ≡ Right call → IsKnownCall call
     unfolding call_with
-    call_by_types c ts r params is f h e =
+    call_by_types c ts r params is f g h e =
         let a = after_right (converted p ts args) (λ es. Right (plain_call c es (result_of ts))) call e in
         let all = converted_all program slots names p r params args a.value f known (subst (λ us. converted p us args ≡ Right a.value) is a.right) in
         let made : plain_call c a.value r ≡ call = ap (λ us. plain_call c a.value (result_of us)) (sym is) ∙ same_right _ _ a.made in
-        subst IsKnownCall made (called_known c r params a.value (subst (IsCalled c) is h) all)
+        subst IsKnownCall made (record { gives = called_known c r params a.value (subst (IsCalled c) is h) all; returns = g })
 
     call_with_known : (c : Callable) → IsKnownCallable c → call_with p args c ≡ Right call → IsKnownCall call
     call_with_known c h e =
         let parts = function_parts (length program.structs) c.types (called_formed c.callee c.types h) in
-        call_by_types c.callee c.types parts.result parts.params parts.is parts.scalars h e
+        call_by_types c.callee c.types parts.result parts.params parts.is parts.scalars parts.returns h e
 
     pub function_call_known : (u : Written) (x : Operand) → IsKnown program slots names u x → function_call p args x ≡ Right call → IsKnownCall call
     unfolding function_call

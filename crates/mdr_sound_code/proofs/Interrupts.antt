@@ -27,6 +27,7 @@ use Rattle.mdr_sound_code.specs.Operands.{IsOf, IsFunctionNamed, IsKnown}
 use Rattle.mdr_sound_code.proofs.Alike.{left_of}
 use Rattle.mdr_sound_code.proofs.FunctionCalls.{IsKnownCall}
 use Rattle.mdr_sound_code.proofs.GivenArguments.{IsKnownArgument, AreKnownArguments}
+use Rattle.mdr_sound_code.proofs.Layers.{sort_int}
 use Rattle.mdr_sound_code.proofs.Rights.{not_right, same_right, chosen_right}
 use Rattle.mdr_sound_code.proofs.Values.{of_term}
 use Rattle.mdr_sound_code.proofs.OfferedCalls.{first_known, service_known}
@@ -52,7 +53,7 @@ module _ (program : Program) (slots : List Slot) (names : List LocalName) where
         let lit = coded.lit_is (value.Fn f) in
         let has : IsOf program slots (expr.Lit (value.Fn f)) handler_type = of_term program slots _ _ handler_type lit (h.func, h.names, ap type.Fun (handler_types ts handles) ∙ sym h.types) in
         subst (IsKnownCall program slots names) (same_right _ _ e)
-        (service_known program slots names CoreService.RequestIrq 7 (expr.Lit (value.Fn f) ∷ []) None None (handler_type ∷ []) (type.Int S32) refl refl (has, tt) (f, ap (λ x. x ∷ []) lit) tt)
+        (service_known program slots names CoreService.RequestIrq 7 (expr.Lit (value.Fn f) ∷ []) None None (handler_type ∷ []) (type.Int S32) refl refl (has, tt) (f, ap (λ x. x ∷ []) lit) tt (λ h. sort_int structs S32))
 
     function_requested : (f : ℕ) (ts : List Ty) (b : Bool) → IsFunctionNamed program f ts → is_handler ts ≡ b → requested p (chosen b (Some f) None) ≡ Right call → IsKnownCall program slots names call
     function_requested f ts true h handles e = requested_known f ts h handles e

@@ -31,7 +31,7 @@ fun_from t ts e = sym (roll-out-Ty t) ∙ ap roll-Ty e ∙ type.rolls-Fun ts
 -- ---- sorts
 
 -- the sort of a type whose level is known
-sort_at : (n : ℕ) (t : Ty) (l : Ty-F Ty) → out-Ty t ≡ l → sort_of n t ≡ sort_layer n (map-Ty Ty Sort (sort_of n) l)
+pub sort_at : (n : ℕ) (t : Ty) (l : Ty-F Ty) → out-Ty t ≡ l → sort_of n t ≡ sort_layer n (map-Ty Ty Sort (sort_of n) l)
 sort_at n t l e = sort_is n t ∙ ap (λ l. sort_layer n (map-Ty Ty Sort (sort_of n) l)) e
 
 pub sort_int : (n : ℕ) (k : Kind) → sort_of n (type.Int k) ≡ Scalar

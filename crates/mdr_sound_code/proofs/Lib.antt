@@ -15,7 +15,8 @@ pub mod Elements
 pub mod Formed
 pub mod TypesWritten
 pub mod Casts
-pub mod Expressions
+pub mod Inside
+pub mod Chosen
 pub mod Assigned
 pub mod GivenArguments
 pub mod FunctionCalls
@@ -25,6 +26,6 @@ pub mod Allocations
 pub mod Printing
 pub mod Interrupts
 pub mod CallsBack
-pub mod NamedTypes
 pub mod ServiceCalls
 pub mod WrittenCalls
+pub mod Expressions

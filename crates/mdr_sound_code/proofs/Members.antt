@@ -29,7 +29,7 @@ use Rattle.mdr_postfix.specs.Members.{object_of, object_at, target, target_locat
 use Rattle.mdr_sound_code.specs.Knowing.{IsKnownField, Knows}
 use Rattle.mdr_sound_code.specs.Operands.{IsInSlot, IsKnownObject, IsKnown}
 use Rattle.mdr_sound_code.proofs.Layers.{struct_from}
-use Rattle.mdr_sound_code.proofs.Placed.{same_extent, object_known}
+use Rattle.mdr_sound_code.proofs.Placed.{same_extent, type_is, object_known}
 use Rattle.mdr_sound_code.proofs.Prefixes.{deref_known}
 use Rattle.mdr_sound_code.proofs.Rights.{after_right, again_right, needed_right, same_right, not_right}
 use Rattle.mdr_sound_code.proofs.Values.{pointer_known}
@@ -117,15 +117,18 @@ module _ (program : Program) (slots : List Slot) (names : List LocalName) where
     member_known_by x m h part =
         let o = m.object in
         let f = part.field in
-        object_known program slots names w (lval.Member x.lval m.number) o
-        (subst (λ d. Designates program slots d (extent o.array o.ty o.count)) (sym (member_is x.lval m.number)) (record {
-          struct = part.struct;
-          whole = subst (λ t. Designates program slots (lvalue_of x.lval) (One t)) part.is h.designates;
-          field = f.field;
-          names = f.names;
-          is = same_extent f.field.array o.array f.field.ty o.ty f.field.count o.count f.array f.ty f.count;
-        }))
-        f.formed (subst HasAddress (sym (member_is x.lval m.number)) (addressed x.lval x.ty part.struct part.is h.kept))
+        object_known program slots names w (lval.Member x.lval m.number o.ty) o
+        (subst (λ d. Designates program slots d (extent o.array o.ty o.count)) (sym (member_is x.lval m.number o.ty)) (
+          record {
+            struct = part.struct;
+            whole = subst (λ t. Designates program slots (lvalue_of x.lval) (One t)) part.is h.designates;
+            field = f.field;
+            names = f.names;
+            is = same_extent f.field.array o.array f.field.ty o.ty f.field.count o.count f.array f.ty f.count;
+          },
+          type_is o.array o.ty o.count,
+        ))
+        f.formed (subst HasAddress (sym (member_is x.lval m.number o.ty)) (addressed x.lval x.ty part.struct part.is h.kept))
 
     member_in_known : (scope : Scope) (p at : Place) (name : List ℕ) (x : Located) (y : Operand) → Knows program scope → IsAt x → member_in scope p at name x ≡ Right y → IsKnown program slots names w y
     unfolding member_in

@@ -24,7 +24,7 @@ use Rattle.mdr_operand.specs.Written.{Written}
 use Rattle.mdr_postfix.specs.Names.{object_operand, entity_operand, file_name, place_of_local, local_operand, local_or, name_rule}
 use Rattle.mdr_sound_code.specs.Knowing.{IsKnownGlobal, IsKnownEntity, IsKnownLocal, Knows, KnowsLocals}
 use Rattle.mdr_sound_code.specs.Operands.{IsInSlot, IsKnown}
-use Rattle.mdr_sound_code.proofs.Placed.{same_extent, placed_known, object_known}
+use Rattle.mdr_sound_code.proofs.Placed.{same_extent, type_is, placed_known, object_known}
 use Rattle.mdr_sound_code.proofs.Rights.{after_right, again_right, same_right, not_right}
 use Rattle.mdr_sound_code.proofs.Values.{of_term}
 
@@ -32,14 +32,17 @@ module _ (program : Program) (slots : List Slot) (names : List LocalName) where
   -- ---- names of the file
 
   module _ (w : Written) where
-    global_known : (g : ℕ) (o : Object) → IsKnownGlobal program g o → IsKnown program slots names w (object_operand (lval.Global g) o)
-    global_known g o h = object_known program slots names w (lval.Global g) o
-        (subst (λ x. Designates program slots x (extent o.array o.ty o.count)) (sym (global_is g)) (record {
-          def = h.def;
-          names = h.names;
-          is = same_extent h.def.array o.array h.def.ty o.ty h.def.count o.count h.array h.ty h.count;
-        }))
-        h.formed (subst HasAddress (sym (global_is g)) tt)
+    global_known : (g : ℕ) (o : Object) → IsKnownGlobal program g o → IsKnown program slots names w (object_operand (lval.Global g o.ty) o)
+    global_known g o h = object_known program slots names w (lval.Global g o.ty) o
+        (subst (λ x. Designates program slots x (extent o.array o.ty o.count)) (sym (global_is g o.ty)) (
+          record {
+            def = h.def;
+            names = h.names;
+            is = same_extent h.def.array o.array h.def.ty o.ty h.def.count o.count h.array h.ty h.count;
+          },
+          type_is o.array o.ty o.count,
+        ))
+        h.formed (subst HasAddress (sym (global_is g o.ty)) tt)
 
     entity_known : (e : Entity) → IsKnownEntity program e → IsKnown program slots names w (entity_operand e)
     unfolding entity_operand
@@ -57,28 +60,34 @@ module _ (program : Program) (slots : List Slot) (names : List LocalName) where
   -- ---- names of the function
 
   slot_known : (w : Written) (n : LocalName) (o : Object) (b : Bool) → n.is_object ≡ b → IsKnownLocal program slots n o → (b ≡ false → IsInSlot names w)
-      → IsKnown program slots names w (object_operand (chosen b (lval.Object n.slot) (lval.Slot n.slot)) o)
-  slot_known w n o true is h s = object_known program slots names w (lval.Object n.slot) o
-      (subst (λ x. Designates program slots x (extent o.array o.ty o.count)) (sym (object_is n.slot)) (record {
-        slot = h.slot;
-        names = h.names;
-        kept = h.kept ∙ is;
-        is = same_extent h.slot.array o.array h.slot.ty o.ty h.slot.count o.count h.array h.ty h.count;
-      }))
-      h.formed (subst HasAddress (sym (object_is n.slot)) tt)
-  slot_known w n o false is h s = placed_known program slots names w (lval.Slot n.slot) o
-      (subst (λ x. Designates program slots x (extent o.array o.ty o.count)) (sym (slot_is n.slot)) (record {
-        slot = h.slot;
-        names = h.names;
-        kept = h.kept ∙ is;
-        is = same_extent h.slot.array o.array h.slot.ty o.ty h.slot.count o.count h.array h.ty h.count;
-      }))
+      → IsKnown program slots names w (object_operand (chosen b (lval.Object n.slot o.ty) (lval.Slot n.slot o.ty)) o)
+  slot_known w n o true is h s = object_known program slots names w (lval.Object n.slot o.ty) o
+      (subst (λ x. Designates program slots x (extent o.array o.ty o.count)) (sym (object_is n.slot o.ty)) (
+        record {
+          slot = h.slot;
+          names = h.names;
+          kept = h.kept ∙ is;
+          is = same_extent h.slot.array o.array h.slot.ty o.ty h.slot.count o.count h.array h.ty h.count;
+        },
+        type_is o.array o.ty o.count,
+      ))
+      h.formed (subst HasAddress (sym (object_is n.slot o.ty)) tt)
+  slot_known w n o false is h s = placed_known program slots names w (lval.Slot n.slot o.ty) o
+      (subst (λ x. Designates program slots x (extent o.array o.ty o.count)) (sym (slot_is n.slot o.ty)) (
+        record {
+          slot = h.slot;
+          names = h.names;
+          kept = h.kept ∙ is;
+          is = same_extent h.slot.array o.array h.slot.ty o.ty h.slot.count o.count h.array h.ty h.count;
+        },
+        type_is o.array o.ty o.count,
+      ))
       h.formed (λ e. inr (s refl, h.scalar is)) (λ e. absurd (let lost : false ≡ true = sym (h.single is) ∙ e in cc))
 
   local_known : (p : Place) (name : List ℕ) (n : LocalName) (y : Operand) → KnowsLocals program slots names → local_named names name ≡ Some n → local_operand n ≡ Right y → IsKnown program slots names (Written.Name p name) y
   unfolding local_operand
   local_known p name n y k is q =
-      let a = after_right (again n.means) (λ o. Right (object_operand (place_of_local n) o)) y q in
+      let a = after_right (again n.means) (λ o. Right (object_operand (place_of_local n o.ty) o)) y q in
       subst (IsKnown program slots names (Written.Name p name)) (same_right _ _ a.made)
       (slot_known (Written.Name p name) n a.value n.is_object refl (k.locals name n a.value is (again_right n.means a.value a.right)) (λ e. record { local = n; named = is; in_slot = e }))
 

@@ -8,7 +8,7 @@ use Rattle.mdr_rich.specs.Folds.{lvalue_of}
 use Rattle.mdr_core.specs.Layout.{chosen}
 use Rattle.mdr_core.specs.Types.{is_scalar}
 use Rattle.mdr_core.specs.Typing.{Slot, extent}
-use Rattle.mdr_rich.specs.Typing.{Designates, HasAddress}
+use Rattle.mdr_rich.specs.Typing.{Designates, HasAddress, type_in}
 use Rattle.mdr_faults.specs.declared.scope.Object.{Object}
 use Rattle.mdr_operand.specs.declared.operand.Operand.TheVariants as operand
 use Rattle.mdr_operand.specs.declared.room.LocalName.{LocalName}
@@ -20,6 +20,11 @@ use Rattle.mdr_sound_code.specs.Operands.{IsInSlot, IsKnown}
 -- what is declared alike has one extent
 pub same_extent : (a b : Bool) (t u : Ty) (m n : ℕ) → a ≡ b → t ≡ u → m ≡ n → extent b u n ≡ extent a t m
 same_extent a b t u m n p q r = sym (λ i. extent (p i) (q i) (r i))
+
+-- the type that stands with its name
+pub type_is : (b : Bool) (t : Ty) (n : ℕ) → t ≡ type_in (extent b t n)
+type_is true t n = refl
+type_is false t n = refl
 
 module _ (program : Program) (slots : List Slot) (names : List LocalName) (w : Written) where
   placed_by : (b : Bool) (l : Lval) (t : Ty) (n : ℕ) → Designates program slots (lvalue_of l) (extent b t n) → IsFormed program t

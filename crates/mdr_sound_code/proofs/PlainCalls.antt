@@ -20,7 +20,7 @@ use Rattle.mdr_call.specs.Functions.{call_with, result_of}
 use Rattle.mdr_call.specs.Services.{plain_service}
 use Rattle.mdr_faults.specs.Faults.{Right}
 use Rattle.mdr_operand.specs.declared.room.LocalName.{LocalName}
-use Rattle.mdr_sound_code.proofs.Formed.{AreScalars}
+use Rattle.mdr_sound_code.proofs.Formed.{AreScalars, IsResult, void_result}
 use Rattle.mdr_sound_code.proofs.FunctionCalls.{IsKnownCall}
 use Rattle.mdr_sound_code.proofs.GivenArguments.{AreKnownArguments, converted_all}
 use Rattle.mdr_sound_code.proofs.Layers.{sort_int, sort_void_ptr, sort_lock, pointer_formed}
@@ -33,21 +33,21 @@ module _ (program : Program) (slots : List Slot) (names : List LocalName) where
 
   module _ (p : Place) (args : List Argument) (known : AreKnownArguments program slots names args) (call : TypedCall) where
     plain_by : (s : CoreService) (n : ℕ) (params : List Ty) (r : Ty) → service_numbered n ≡ Some s → offered s None None ≡ Some (record { params = params; result = r })
-        → ((ts : List Term) → NamesHandler s ts) → AreScalars structs params
+        → ((ts : List Term) → NamesHandler s ts) → AreScalars structs params → IsResult structs r
         → call_with p args (record { callee = callee.Service n; types = r ∷ params }) ≡ Right call → IsKnownCall program slots names call
     unfolding call_with
-    plain_by s n params r numbered offers names_handler f e =
+    plain_by s n params r numbered offers names_handler f g e =
         let a = after_right (converted p (r ∷ params) args) (λ es. Right (plain_call (callee.Service n) es (result_of (r ∷ params)))) call e in
         let all = converted_all program slots names p r params args a.value f known a.right in
-        subst (IsKnownCall program slots names) (same_right _ _ a.made) (service_known program slots names s n a.value None None params r numbered offers all (names_handler (map term_of a.value)) tt)
+        subst (IsKnownCall program slots names) (same_right _ _ a.made) (service_known program slots names s n a.value None None params r numbered offers all (names_handler (map term_of a.value)) tt g)
 
     pub plain_service_known : (s : PlainService) → plain_service p args s ≡ Right call → IsKnownCall program slots names call
     unfolding plain_service
-    plain_service_known Kfree e = plain_by CoreService.Kfree 3 _ _ refl refl (λ ts. tt) (sort_void_ptr structs, tt) e
-    plain_service_known Readl e = plain_by CoreService.Readl 4 _ _ refl refl (λ ts. tt) (sort_int structs U32, tt) e
-    plain_service_known Writel e = plain_by CoreService.Writel 5 _ _ refl refl (λ ts. tt) (sort_int structs U32, (sort_int structs U32, tt)) e
-    plain_service_known FreeIrq e = plain_by CoreService.FreeIrq 8 _ _ refl refl (λ ts. tt) tt e
-    plain_service_known Deliver e = plain_by CoreService.Deliver 9 _ _ refl refl (λ ts. tt) (pointer_formed structs (type.Int U8) (inl (sort_int structs U8)), (sort_int structs U32, tt)) e
-    plain_service_known Combolock e = plain_by CoreService.Combolock 10 _ _ refl refl (λ ts. tt) (pointer_formed structs type.Lock (inr (inr (sort_lock structs))), tt) e
-    plain_service_known Combounlock e = plain_by CoreService.Combounlock 11 _ _ refl refl (λ ts. tt) (pointer_formed structs type.Lock (inr (inr (sort_lock structs))), tt) e
-    plain_service_known Bug e = plain_by CoreService.Bug 12 _ _ refl refl (λ ts. tt) tt e
+    plain_service_known Kfree e = plain_by CoreService.Kfree 3 _ _ refl refl (λ ts. tt) (sort_void_ptr structs, tt) (void_result structs) e
+    plain_service_known Readl e = plain_by CoreService.Readl 4 _ _ refl refl (λ ts. tt) (sort_int structs U32, tt) (λ h. sort_int structs U32) e
+    plain_service_known Writel e = plain_by CoreService.Writel 5 _ _ refl refl (λ ts. tt) (sort_int structs U32, (sort_int structs U32, tt)) (void_result structs) e
+    plain_service_known FreeIrq e = plain_by CoreService.FreeIrq 8 _ _ refl refl (λ ts. tt) tt (void_result structs) e
+    plain_service_known Deliver e = plain_by CoreService.Deliver 9 _ _ refl refl (λ ts. tt) (pointer_formed structs (type.Int U8) (inl (sort_int structs U8)), (sort_int structs U32, tt)) (void_result structs) e
+    plain_service_known Combolock e = plain_by CoreService.Combolock 10 _ _ refl refl (λ ts. tt) (pointer_formed structs type.Lock (inr (inr (sort_lock structs))), tt) (void_result structs) e
+    plain_service_known Combounlock e = plain_by CoreService.Combounlock 11 _ _ refl refl (λ ts. tt) (pointer_formed structs type.Lock (inr (inr (sort_lock structs))), tt) (void_result structs) e
+    plain_service_known Bug e = plain_by CoreService.Bug 12 _ _ refl refl (λ ts. tt) tt (void_result structs) e

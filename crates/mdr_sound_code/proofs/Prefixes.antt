@@ -36,7 +36,7 @@ module _ (program : Program) (slots : List Slot) (names : List LocalName) where
 
   pub deref_known : (w : Written) (e : Expr) (t : Ty) → IsPointer program slots e t → IsKnown program slots names w (operand.Object (lval.Deref e) t)
   deref_known w e t h = record {
-    designates = subst (λ x. Designates program slots x (One t)) (sym (deref_is e)) (record { type = t; pointer = h.value; is = refl });
+    designates = subst (λ x. Designates program slots x (One t)) (sym (deref_is e)) (record { type = t; pointer = h.value; is = refl }, h.no_literal);
     formed = h.formed;
     kept = inl (subst HasAddress (sym (deref_is e)) tt);
   }
@@ -81,7 +81,7 @@ module _ (program : Program) (slots : List Slot) (names : List LocalName) where
         subst (IsKnown program slots names w) (same_right _ _ a.made) (deref_known w a.value.value a.value.ty (pointer_known program slots names v p x a.value h a.right))
 
     object_address_known : (l : Lval) (t : Ty) → (IsInSlot names v → ⊥) → IsKnownObject program slots names v l t → IsKnown program slots names w (object_address l t)
-    object_address_known l t none h = record { value = address_of_known program slots l t h.designates (by h.kept); formed = h.formed }
+    object_address_known l t none h = address_of_known program slots l t h.designates (by h.kept) h.formed
       where
         by : {S : Type 0} → HasAddress (lvalue_of l) ⊎ (IsInSlot names v × S) → HasAddress (lvalue_of l)
         by (inl a) = a
@@ -108,7 +108,7 @@ module _ (program : Program) (slots : List Slot) (names : List LocalName) where
     prefix_of_known p prefix.Address x y none h q = address_known p x y (none refl) h q
     prefix_of_known p prefix.Target x y none h q = target_known p x y h q
 
-    prefix_by_known : (p : Place) (o : Option PrefixOperator) (x y : Operand) → (o ≡ Some prefix.Address → IsInSlot names v → ⊥) → IsKnown program slots names v x → prefix_by p o x ≡ Right y → IsKnown program slots names w y
+    pub prefix_by_known : (p : Place) (o : Option PrefixOperator) (x y : Operand) → (o ≡ Some prefix.Address → IsInSlot names v → ⊥) → IsKnown program slots names v x → prefix_by p o x ≡ Right y → IsKnown program slots names w y
     prefix_by_known p None x y none h q = not_right _ y q
     prefix_by_known p (Some op) x y none h q = prefix_of_known p op x y (λ e. none (ap Some e)) h q
 

@@ -13,7 +13,7 @@ use Rattle.mdr_call.specs.Services.{text_argument, printing, printed_with, print
 use Rattle.mdr_faults.specs.Faults.{Right}
 use Rattle.mdr_operand.specs.declared.room.LocalName.{LocalName}
 use Rattle.mdr_operand.specs.Forms.{needed}
-use Rattle.mdr_sound_code.proofs.Formed.{AreScalars}
+use Rattle.mdr_sound_code.proofs.Formed.{AreScalars, void_result}
 use Rattle.mdr_sound_code.proofs.FunctionCalls.{IsKnownCall}
 use Rattle.mdr_sound_code.proofs.GivenArguments.{AreKnownArguments, converted_all}
 use Rattle.mdr_sound_code.proofs.Layers.{sort_int}
@@ -36,7 +36,7 @@ module _ (program : Program) (slots : List Slot) (names : List LocalName) where
         let a = after_right (converted p (type.Void ∷ map type.Int k.value) args) (λ es. Right (printing text es)) call k.made in
         let takes = needed_right p (directives Reading.Plain text) k.value k.right in
         let all = converted_all program slots names p type.Void (map type.Int k.value) args a.value (integers k.value) h a.right in
-        subst (IsKnownCall program slots names) (same_right _ _ a.made) (service_known program slots names CoreService.Printk 6 a.value None (Some text) (map type.Int k.value) type.Void refl (ap printed_signature takes) all tt tt)
+        subst (IsKnownCall program slots names) (same_right _ _ a.made) (service_known program slots names CoreService.Printk 6 a.value None (Some text) (map type.Int k.value) type.Void refl (ap printed_signature takes) all tt tt (void_result structs))
 
     printed_by_known : (args : List Argument) → AreKnownArguments program slots names args → printed_by p (first_off args) ≡ Right call → IsKnownCall program slots names call
     unfolding printed_first

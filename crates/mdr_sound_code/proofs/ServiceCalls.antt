@@ -1,9 +1,7 @@
 -- A call of a service is one of the program.
-use Rattle.std.proofs.Common.{◌≡◌, List, Some}
+use Rattle.std.proofs.Common.{◌≡◌, List}
 use Rattle.mdr_core.specs.declared.place.Place.{Place}
 use Rattle.mdr_core.specs.declared.program.Program.{Program}
-use Rattle.mdr_core.specs.declared.types.Ty.{Ty}
-use Rattle.mdr_core.specs.Types.{HasNumber}
 use Rattle.mdr_core.specs.Typing.{Slot}
 use Rattle.mdr_call.specs.declared.parts.Argument.{Argument}
 use Rattle.mdr_call.specs.declared.parts.TypedCall.{TypedCall}
@@ -23,12 +21,11 @@ use Rattle.mdr_sound_code.proofs.Printing.{printk_known}
 
 module _ (program : Program) (slots : List Slot) (names : List LocalName) where
   pub service_call_known : (scope : Scope) (p : Place) (args : List Argument) (s : Service) (call : TypedCall) → AreKnownArguments program slots names args
-      → ((t : Ty) → call.form.shape ≡ Some t → HasNumber program t)
       → service_call scope p args s ≡ Right call → IsKnownCall program slots names call
   unfolding service_call
-  service_call_known scope p args service.Kzalloc call h table e = kzalloc_known program slots names scope p call table args h e
-  service_call_known scope p args service.Kcalloc call h table e = kcalloc_known program slots names scope p call table args h e
-  service_call_known scope p args service.Printk call h table e = printk_known program slots names p call args h e
-  service_call_known scope p args service.RequestIrq call h table e = request_irq_known program slots names p call args h e
-  service_call_known scope p args service.Kcall call h table e = kcall_known program slots names p call args h e
-  service_call_known scope p args (service.Plain s) call h table e = plain_service_known program slots names p args h call s e
+  service_call_known scope p args service.Kzalloc call h e = kzalloc_known program slots names scope p call args h e
+  service_call_known scope p args service.Kcalloc call h e = kcalloc_known program slots names scope p call args h e
+  service_call_known scope p args service.Printk call h e = printk_known program slots names p call args h e
+  service_call_known scope p args service.RequestIrq call h e = request_irq_known program slots names p call args h e
+  service_call_known scope p args service.Kcall call h e = kcall_known program slots names p call args h e
+  service_call_known scope p args (service.Plain s) call h e = plain_service_known program slots names p args h call s e

@@ -10,7 +10,7 @@ use Rattle.mdr_core.specs.declared.types.Ty.TheVariants as type
 use Rattle.mdr_rich.specs.Folds.{term_of, lvalue_of}
 use Rattle.mdr_core.specs.Types.{Scalar as ScalarSort, is_scalar, sort_of}
 use Rattle.mdr_core.specs.Typing.{Slot, One, Many, function_type}
-use Rattle.mdr_rich.specs.Typing.{Has, Designates, HasAddress}
+use Rattle.mdr_rich.specs.Typing.{Has, Designates, HasAddress, IsNoLiteral}
 use Rattle.mdr_operand.specs.declared.operand.Operand.{Operand}
 use Rattle.mdr_operand.specs.declared.operand.Operand.TheVariants as operand
 use Rattle.mdr_operand.specs.declared.operand.Scalar.{Scalar}
@@ -27,6 +27,7 @@ IsOf program slots e t = Has program slots (term_of e) t
 pub record IsPointer (program : Program) (slots : List Slot) (e : Expr) (t : Ty) : Type 0 where
   pub value : IsOf program slots e (type.Ptr t)
   pub formed : IsFormed program t
+  pub no_literal : IsNoLiteral (term_of e)
 
 -- a pointer to a function, whose parameters are scalars
 pub record IsHandle (program : Program) (slots : List Slot) (e : Expr) (ts : List Ty) : Type 0 where

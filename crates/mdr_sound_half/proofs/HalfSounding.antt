@@ -12,7 +12,6 @@ use Rattle.mdr_core.specs.declared.types.Ty.TheOpen.{Ty-F}
 use Rattle.mdr_core.specs.declared.types.Ty.TheVariants as type
 use Rattle.mdr_core.specs.Sound.{IsObjectSort, IsTable}
 use Rattle.mdr_core.specs.Types.{first_types, is_pointer_by, sort_of}
-use Rattle.mdr_core.specs.TypeText.{Occurs, OfField, OfGlobal, OfParam, OfLocal, OfAllocation}
 use Rattle.mdr_syntax.specs.declared.tree.Item.{Item}
 use Rattle.mdr_faults.specs.Alike.{is_alike}
 use Rattle.mdr_check.specs.declared.table.TextedType.{TextedType}
@@ -20,6 +19,7 @@ use Rattle.mdr_check.specs.declared.variable.Variable.{Variable}
 use Rattle.mdr_check.specs.Tables.{struct_types, types_alone, type_table}
 use Rattle.mdr_check.specs.Whole.{file_pieces}
 use Rattle.mdr_body.specs.Bodies.{body_rule}
+use Rattle.mdr_lower.specs.Tables.{Occurs, OfField, OfGlobal, OfParam, OfLocal, OfAllocation}
 use Rattle.mdr_program.specs.declared.parts.Parts.{Parts}
 use Rattle.mdr_program.specs.Occurring.{occurring}
 use Rattle.mdr_program.specs.Orders.{IsAmong, HasFirstNumbers}
@@ -55,7 +55,7 @@ occurs_by : (types others : List Ty) (ps : Parts) (t : Ty) → Occurs (with_type
 occurs_by types others ps t (OfField s f def x names has is) = OfField s f def x names has is
 occurs_by types others ps t (OfGlobal g def names is) = let o = other_global types others ps.structs ps.variables ps.variables g def names in OfGlobal g o.0 o.1 (o.2 ∙ is)
 occurs_by types others ps t (OfParam f i func p names has is) = OfParam f i func p names has is
-occurs_by types others ps t (OfLocal f i func l names has is) = OfLocal f i func l names has is
+occurs_by types others ps t (OfLocal f i func l names has counted is) = OfLocal f i func l names has counted is
 occurs_by types others ps t (OfAllocation f func body names has h) = OfAllocation f func body names has h
 
 among : (types : List Ty) (ps : Parts) (t : Ty) → Occurs (with_types types ps) t → IsAmong t (occurring ps)

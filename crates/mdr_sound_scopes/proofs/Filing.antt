@@ -28,10 +28,9 @@ use Rattle.mdr_program.specs.Parts.{remote, whole, behind_piece, parts_behind, n
 use Rattle.mdr_program.specs.Programs.{typed}
 use Rattle.mdr_scoped.specs.Scopes.{BodyScoped, IsScoped}
 use Rattle.mdr_sound_code.specs.Knowing.{Knows}
-use Rattle.mdr_sound_bodies.specs.Bodies.{IsMade}
+use Rattle.mdr_sound_bodies.specs.Bodies.{IsComposed}
 use Rattle.mdr_sound_bodies.specs.Rules.{AreSoundRules}
 use Rattle.mdr_sound_bodies.specs.Written.{AreNamed, AreProper}
-use Rattle.mdr_sound_bodies.proofs.Making.{body_grounded}
 use Rattle.mdr_sound.specs.Counting.{Begins}
 use Rattle.mdr_sound.specs.Whole.{HasAll, IsMadeOf, AreDefinesInRange, IsBodyProper, AreBodiesProper}
 use Rattle.mdr_sound.proofs.Along.{GoesOn, along}
@@ -40,7 +39,7 @@ use Rattle.mdr_sound.proofs.Filed.{file_of, file_made}
 use Rattle.mdr_sound.proofs.NamedTypes.{AreNumbered}
 use Rattle.mdr_sound.proofs.Outlines.{names_structs}
 use Rattle.mdr_sound.proofs.Scopes.{IsStanding, standing_goes_on, first_standing, function_stands}
-use Rattle.mdr_sound.proofs.Sounding.{IsPlaced, put_either, keep_either, proper_at, headed_by, knows_declarations, body_scope_structs, body_scope_tags, func_placed}
+use Rattle.mdr_sound.proofs.Sounding.{put_either, keep_either, proper_at, headed_by, knows_declarations, body_scope_structs, body_scope_tags}
 use Rattle.mdr_sound.proofs.Viewed.{Comes, OfDefine, OfStruct, OfEnum, OfGlobal, OfPrototype, OfFunction, comes_to}
 use Rattle.mdr_sound_scopes.specs.Bodies.{ScopedWith, IsScopedFunc}
 use Rattle.mdr_sound_scopes.specs.Plain.{ArePlainRules}
@@ -57,23 +56,23 @@ module _ (program : Program) (rules : Rules) (items : List Item) (xs : List Piec
   AtRest = IsStanding program (body_rule rules) items xs right made ranges
 
   -- a function in its place
-  function_scoped : (before : List Item) (known : Known) (ps : Parts) (h : Head) (is_critical : Bool) (nodes : List Node) (g : Heading) (b : Body) → function_declared known.scope known.functions before h true ≡ Right g → body_rule rules (body_scope known h) h nodes ≡ Right b → AreNamed h.params × AreProper (lines_of nodes) → Begins (functions_behind known.scope known.functions h) Last.functions → AtRest known ps → AreNumbered known.scope (length program.structs) → IsPlaced program (whole h.name is_critical g b) → IsScopedFunc (whole h.name is_critical g b)
-  function_scoped before known ps h is_critical nodes g b e f written begins q low placed =
+  function_scoped : (before : List Item) (known : Known) (ps : Parts) (h : Head) (is_critical : Bool) (nodes : List Node) (g : Heading) (b : Body) → function_declared known.scope known.functions before h true ≡ Right g → body_rule rules (body_scope known h) h nodes ≡ Right b → AreNamed h.params × AreProper (lines_of nodes) → Begins (functions_behind known.scope known.functions h) Last.functions → AtRest known ps → AreNumbered known.scope (length program.structs) → IsScopedFunc (whole h.name is_critical g b)
+  function_scoped before known ps h is_critical nodes g b e f written begins q low =
       let headed = headed_by program rules items xs right made ranges proper all sound_rules before known h true g e begins in
       let scope = body_scope known h in
       let st = function_stands program (body_rule rules) items xs right made ranges known h headed q.stands low in
       let declarations = knows_declarations program rules items xs right made ranges proper all sound_rules known ps scope q st (body_scope_structs program rules items xs right made ranges proper all sound_rules known h) in
-      let is_made : IsMade program rules scope h nodes g b = record { front = known.scope; tags = body_scope_tags program rules items xs right made ranges proper all sound_rules known h; heading_is = headed.listed; body_is = f; named = written.0; proper = written.1; in_table = placed.locals; grounded = body_grounded program b.statements placed.body } in
+      let is_made : IsComposed rules scope h nodes g b = record { front = known.scope; tags = body_scope_tags program rules items xs right made ranges proper all sound_rules known h; heading_is = headed.listed; body_is = f; named = written.0; proper = written.1 } in
       bodies_scoped program rules scope h nodes g b h.name is_critical declarations (sound_rules scope st.knows) (plain scope) is_made
 
   record IsScopedFile (known : Known) (ps : Parts) : Type 0 where
     rests : AtRest known ps
-    funcs : (i : ℕ) (f : Func) → slice_get ps.funcs i ≡ Some f → IsPlaced program f → IsScopedFunc f
+    funcs : (i : ℕ) (f : Func) → slice_get ps.funcs i ≡ Some f → IsScopedFunc f
 
   -- one function more
-  one_func : (fs : List Func) (f g : Func) → ((i : ℕ) (f : Func) → slice_get fs i ≡ Some f → IsPlaced program f → IsScopedFunc f) → (IsPlaced program f → IsScopedFunc f) → (i : ℕ) → (slice_get fs i ≡ Some g) ⊎ (f ≡ g) → IsPlaced program g → IsScopedFunc g
-  one_func fs f g h own i (inl old) placed = h i g old placed
-  one_func fs f g h own i (inr new) placed = subst (λ (x : Func). IsPlaced program x → IsScopedFunc x) new own placed
+  one_func : (fs : List Func) (f g : Func) → ((i : ℕ) (f : Func) → slice_get fs i ≡ Some f → IsScopedFunc f) → IsScopedFunc f → (i : ℕ) → (slice_get fs i ≡ Some g) ⊎ (f ≡ g) → IsScopedFunc g
+  one_func fs f g h own i (inl old) = h i g old
+  one_func fs f g h own i (inr new) = subst IsScopedFunc new own
 
   scoped_behind : (before : List Item) (known : Known) (ps : Parts) (what : ItemWhat) (x : Piece) → Comes (body_rule rules) items before known what x → IsBodyProper what → Begins (behind_item known what).functions Last.functions → AreNumbered known.scope (length program.structs) → AtRest (behind_item known what) (behind_piece ps x) → IsScopedFile known ps → IsScopedFile (behind_item known what) (behind_piece ps x)
   scoped_behind before known ps _ _ (OfDefine name is_negative n k) written begins low rests q = record { rests = rests; funcs = q.funcs }
@@ -82,11 +81,11 @@ module _ (program : Program) (rules : Rules) (items : List Item) (xs : List Piec
   scoped_behind before known ps _ _ (OfGlobal d init v e) written begins low rests q = record { rests = rests; funcs = q.funcs }
   scoped_behind before known ps _ _ (OfPrototype h is_remote g e) written begins low rests q = record {
     rests = rests;
-    funcs = λ i f n placed. one_func ps.funcs (remote h.name g) f q.funcs (λ p. tt) i (keep_either ps.funcs (remote h.name g) f i (ap (λ fs. slice_get fs i) (sym (declared_keep ps.funcs (remote h.name g))) ∙ n)) placed;
+    funcs = λ i f n. one_func ps.funcs (remote h.name g) f q.funcs tt i (keep_either ps.funcs (remote h.name g) f i (ap (λ fs. slice_get fs i) (sym (declared_keep ps.funcs (remote h.name g))) ∙ n));
   }
   scoped_behind before known ps _ _ (OfFunction h is_critical nodes g b e f) written begins low rests q = record {
     rests = rests;
-    funcs = λ i k n placed. one_func ps.funcs (whole h.name is_critical g b) k q.funcs (function_scoped before known ps h is_critical nodes g b e f written begins q.rests low) i (put_either ps.funcs (whole h.name is_critical g b) k i (ap (λ fs. slice_get fs i) (sym (defined_put ps.funcs (whole h.name is_critical g b))) ∙ n)) placed;
+    funcs = λ i k n. one_func ps.funcs (whole h.name is_critical g b) k q.funcs (function_scoped before known ps h is_critical nodes g b e f written begins q.rests low) i (put_either ps.funcs (whole h.name is_critical g b) k i (ap (λ fs. slice_get fs i) (sym (defined_put ps.funcs (whole h.name is_critical g b))) ∙ n));
   }
 
   scoped_goes_on : GoesOn (body_rule rules) items Whole Last.functions IsScopedFile
@@ -104,7 +103,7 @@ module _ (program : Program) (rules : Rules) (items : List Item) (xs : List Piec
   all_scoped = along (body_rule rules) items xs IsScopedFile right scoped_goes_on (record { rests = first_standing program (body_rule rules) items xs right made ranges; funcs = λ i f e. absurd cc })
 
   funcs_scoped : (f : ℕ) (func : Func) → slice_get program.funcs f ≡ Some func → IsScopedFunc func
-  funcs_scoped f func e = all_scoped.funcs f func (ap (λ fs. slice_get fs f) (sym made.funcs) ∙ e) (func_placed program rules items xs right made ranges proper all sound_rules f func e)
+  funcs_scoped f func e = all_scoped.funcs f func (ap (λ fs. slice_get fs f) (sym made.funcs) ∙ e)
 
   -- ---- the program
 

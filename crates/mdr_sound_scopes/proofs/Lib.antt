@@ -3,6 +3,7 @@ pub mod Seeing
 pub mod Living
 pub mod Steps
 pub mod Lines
+pub mod Lowered
 pub mod Making
 pub mod Filing
 pub mod Typing

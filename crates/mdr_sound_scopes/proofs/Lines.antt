@@ -1,14 +1,13 @@
 -- Statements name objects only where they live, if what stands in them does.
 use Rattle.std.proofs.Common.{◌≡◌, ◌⊎◌, ℕ, ◌||◌, Bool, true, false, List, [], length, Option, Some, Ok, refl, sym, ◌∙◌, subst}
 use Rattle.mdr_rich.specs.declared.code.Expr.{Expr}
-use Rattle.mdr_rich.specs.declared.code.Step.{Step}
 use Rattle.mdr_rich.specs.declared.code.Step.TheVariants as step
 use Rattle.mdr_rich.specs.declared.code.Stmt.{Stmt}
 use Rattle.mdr_core.specs.declared.place.Place.{Place}
 use Rattle.mdr_core.specs.declared.program.Program.{Program}
 use Rattle.mdr_core.specs.declared.types.Ty.{Ty}
 use Rattle.mdr_core.specs.declared.types.Ty.TheVariants as type
-use Rattle.mdr_rich.specs.Code.{Code, Codes}
+use Rattle.mdr_rich.specs.Code.{Code}
 use Rattle.mdr_rich.specs.Folds.{code_of, codes_of, term_of, test_of}
 use Rattle.mdr_core.specs.Types.{Scalar, sort_of}
 use Rattle.mdr_core.specs.Typing.{Slot}
@@ -20,9 +19,8 @@ use Rattle.mdr_body.specs.declared.here.Frame.{Frame}
 use Rattle.mdr_body.specs.declared.here.Here.{Here}
 use Rattle.mdr_body.specs.Locals.{is_taken, entered, numbered}
 use Rattle.mdr_body.specs.Addresses.{takes_in, perhaps_takes, takes_at, takes_along}
-use Rattle.mdr_body.specs.Statements.{Rules, stmt, single, condition, perhaps_condition, appended, pair, head_taken, simple_made, simple_behind, heads_made, heads_behind, steps_made, steps_behind, for_head, behind_head, block_of, as_part, if_of, while_of, for_of, line_behind, perhaps_behind, lines_behind, line_made, perhaps_made, lines_made}
+use Rattle.mdr_body.specs.Statements.{Rules, stmt, condition, perhaps_condition, appended, pair, head_taken, simple_made, simple_behind, heads_made, heads_behind, steps_made, steps_behind, for_head, behind_head, block_of, as_part, if_of, while_of, for_of, line_behind, perhaps_behind, lines_behind, line_made, perhaps_made, lines_made}
 use Rattle.mdr_sound_code.proofs.Rights.{same_right, after_right, both_right}
-use Rattle.mdr_sound_bodies.specs.Grounded.{IsGrounded, AreGrounded}
 use Rattle.mdr_sound_bodies.specs.Rules.{IsRight, AreSoundRules}
 use Rattle.mdr_sound_bodies.specs.Written.{PerhapsHasNumbers, IsStatement, AreStatements, IsProper, AreProper}
 use Rattle.mdr_sound_bodies.specs.Within.{KnowsDeclarations, AreDeclared, in_front, IsTold, IsHere}
@@ -30,7 +28,6 @@ use Rattle.mdr_sound_bodies.proofs.Joined.{or_left, or_right}
 use Rattle.mdr_sound_bodies.proofs.Growing.{line_grows, perhaps_grow, lines_grow, heads_grow, names_keep}
 use Rattle.mdr_sound_bodies.proofs.Declaring.{declared_before}
 use Rattle.mdr_sound_bodies.proofs.Going.{here_less, here_numbered, here_entered}
-use Rattle.mdr_sound_bodies.proofs.Coding.{grounded_head, grounded_left, grounded_right, if_parts, while_part, block_part, for_parts}
 use Rattle.mdr_sound_bodies.proofs.Conditions.{condition_typed, test_typed}
 use Rattle.mdr_sound_bodies.proofs.Stating.{written_right, perhaps_right}
 use Rattle.mdr_sound_bodies.proofs.Heading.{pair_right, tail, told_head, told_line, told_none, steps_same, simple_here, heads_here}
@@ -97,25 +94,24 @@ module _ (program : Program) (slots : List Slot) (base : ℕ) (scope : Scope) (f
 
   -- ---- the head of a `for`
 
-  heads_leave : (here : Here) (objects : List ℕ) (test : Option Written) (next : Lines) (body : Line) (ls : Lines) (ss : List Stmt) → Live here objects → IsHere program slots base here (λ n. takes_along n ls (tail test next body n)) → AreProper ls → AreDeclared slots base (heads_behind scope frame here test next body ls).locals → AreGrounded program (codes_of ss) → heads_made rules scope frame here test next body ls ≡ Right ss → Leaves slots (heads_behind scope frame here test next body ls) objects false ss
+  heads_leave : (here : Here) (objects : List ℕ) (test : Option Written) (next : Lines) (body : Line) (ls : Lines) (ss : List Stmt) → Live here objects → IsHere program slots base here (λ n. takes_along n ls (tail test next body n)) → AreProper ls → AreDeclared slots base (heads_behind scope frame here test next body ls).locals → heads_made rules scope frame here test next body ls ≡ Right ss → Leaves slots (heads_behind scope frame here test next body ls) objects false ss
   unfolding heads_behind heads_made
-  heads_leave here objects test next body Lines.End ss live h proper declared g e = leaves_none slots here objects false ss live e
-  heads_leave here objects test next body (Lines.Then l ls) ss live h proper declared g e =
+  heads_leave here objects test next body Lines.End ss live h proper declared e = leaves_none slots here objects false ss live e
+  heads_leave here objects test next body (Lines.Then l ls) ss live h proper declared e =
       let t = head_taken l ls test next body in
       let there : Here = simple_behind scope frame here t l in
       let rest : List ℕ → Bool = λ n. takes_along n ls (tail test next body n) in
       let first = declared_before slots base there.locals (heads_behind scope frame there test next body ls).locals _ (heads_grow scope frame there test next body ls).locals_are declared in
       let parts = both_right (simple_made rules scope frame false here t l) (heads_made rules scope frame there test next body ls) appended ss e in
-      let grounded = subst (λ xs. AreGrounded program (codes_of xs)) (sym (same_right _ _ parts.made)) g in
-      let one = simple_leaves program slots base scope frame known rules sound plain result gives given here objects false t l rest parts.left live h proper.0 (told_head l ls test next body) first (grounded_left program parts.left parts.right grounded) parts.first in
+      let one = simple_leaves program slots base scope frame known rules sound plain result gives given here objects false t l rest parts.left live h proper.0 (told_head l ls test next body) first parts.first in
       leaves_both slots there (heads_behind scope frame there test next body ls) objects parts.left parts.right ss one
-      (λ more. heads_leave there (behinds slots objects (codes_of parts.left)) test next body ls parts.right more (simple_here program slots base scope frame known here t l rest h proper.0 (told_head l ls test next body) first) proper.1 declared (grounded_right program parts.left parts.right grounded) parts.second)
+      (λ more. heads_leave there (behinds slots objects (codes_of parts.left)) test next body ls parts.right more (simple_here program slots base scope frame known here t l rest h proper.0 (told_head l ls test next body) first) proper.1 declared parts.second)
       parts.made
 
-  steps_scoped : (here : Here) (objects : List ℕ) (ls : Lines) (ss : List Stmt) → Live here objects → IsHere program slots base here (λ n. takes_along n ls false) → AreStatements ls → AreProper ls → AreDeclared slots base (steps_behind scope frame here ls).locals → AreGrounded program (codes_of ss) → steps_made rules scope frame here ls ≡ Right ss → CodesScoped slots objects (codes_of ss)
-  steps_scoped here objects Lines.End ss live h s proper declared g e = subst (λ xs. CodesScoped slots objects (codes_of xs)) (same_right [] ss e) tt
-  steps_scoped here objects (Lines.Then l ls) ss live h s proper declared g e =
-      (simple_leaves program slots base scope frame known rules sound plain result gives given here objects false false l (λ n. takes_along n ls false) ss live h proper.0 (told_none false l (λ n. takes_along n ls false) s.0) declared g e).scoped
+  steps_scoped : (here : Here) (objects : List ℕ) (ls : Lines) (ss : List Stmt) → Live here objects → IsHere program slots base here (λ n. takes_along n ls false) → AreStatements ls → AreProper ls → AreDeclared slots base (steps_behind scope frame here ls).locals → steps_made rules scope frame here ls ≡ Right ss → CodesScoped slots objects (codes_of ss)
+  steps_scoped here objects Lines.End ss live h s proper declared e = subst (λ xs. CodesScoped slots objects (codes_of xs)) (same_right [] ss e) tt
+  steps_scoped here objects (Lines.Then l ls) ss live h s proper declared e =
+      (simple_leaves program slots base scope frame known rules sound plain result gives given here objects false false l (λ n. takes_along n ls false) ss live h proper.0 (told_none false l (λ n. takes_along n ls false) s.0) declared e).scoped
 
   -- behind the head
   head_live : (here : Here) (objects : List ℕ) (init : Lines) (test : Option Written) (next : Lines) (body : Line) → AreStatements next → Live (heads_behind scope frame here test next body init) objects → Live (behind_head scope frame here init test next body) objects
@@ -128,41 +124,34 @@ module _ (program : Program) (slots : List Slot) (base : ℕ) (scope : Scope) (f
 
   -- where a part is made of code that is right
   abbrev PartScoped : List ℕ → Checked (List Stmt) → Type 0
-  PartScoped objects c = (xs : List Stmt) → AreGrounded program (codes_of xs) → c ≡ Right xs → CodesScoped slots objects (codes_of xs)
+  PartScoped objects c = (xs : List Stmt) → c ≡ Right xs → CodesScoped slots objects (codes_of xs)
 
-  -- a single statement among those that are grounded
-  one_grounded : (n : ℕ) (s : Step) (ss : List Stmt) → single n s ≡ Right ss → AreGrounded program (codes_of ss) → IsGrounded program (code_of (stmt n s))
-  one_grounded n s ss e g = grounded_head program (code_of (stmt n s)) Codes.End (subst (λ xs. AreGrounded program (codes_of xs)) (sym (same_right _ _ e)) g)
-
-  part_leaves : (there : Here) (objects : List ℕ) (is_part : Bool) (c : Checked (List Stmt)) (ss : List Stmt) → Live there objects → PartScoped objects c → AreGrounded program (codes_of ss) → as_part is_part c ≡ Right ss → Leaves slots there objects is_part ss
-  part_leaves there objects true c ss live h g e = record { scoped = h ss g e; goes_on = λ q. absurd (no q) }
+  part_leaves : (there : Here) (objects : List ℕ) (is_part : Bool) (c : Checked (List Stmt)) (ss : List Stmt) → Live there objects → PartScoped objects c → as_part is_part c ≡ Right ss → Leaves slots there objects is_part ss
+  part_leaves there objects true c ss live h e = record { scoped = h ss e; goes_on = λ q. absurd (no q) }
     where
       no : true ≡ false → ⊥
       no q = absurd cc
-  part_leaves there objects false c ss live h g e =
+  part_leaves there objects false c ss live h e =
       let a = after_right c block_of ss e in
-      let inside = block_part program 0 a.value (one_grounded 0 (step.Block a.value) ss a.made g) in
-      leaves_one slots there objects false 0 (step.Block a.value) ss live (block_still slots objects 0 a.value (h a.value inside a.right)) a.made
+      leaves_one slots there objects false 0 (step.Block a.value) ss live (block_still slots objects 0 a.value (h a.value a.right)) a.made
 
-  if_leaves : (there : Here) (objects : List ℕ) (is_part : Bool) (n : ℕ) (tested : Checked Expr) (c d : Checked (List Stmt)) (ss : List Stmt) → Live there objects → ((e : Expr) → tested ≡ Right e → TermScoped objects (term_of e)) → PartScoped objects c → PartScoped objects d → AreGrounded program (codes_of ss) → both (both tested c pair) d (if_of n) ≡ Right ss → Leaves slots there objects is_part ss
-  if_leaves there objects is_part n tested c d ss live t h k g e =
+  if_leaves : (there : Here) (objects : List ℕ) (is_part : Bool) (n : ℕ) (tested : Checked Expr) (c d : Checked (List Stmt)) (ss : List Stmt) → Live there objects → ((e : Expr) → tested ≡ Right e → TermScoped objects (term_of e)) → PartScoped objects c → PartScoped objects d → both (both tested c pair) d (if_of n) ≡ Right ss → Leaves slots there objects is_part ss
+  if_leaves there objects is_part n tested c d ss live t h k e =
       let outer = both_right (both tested c pair) d (if_of n) ss e in
       let inner = pair_right tested c outer.left outer.first in
-      let parts = if_parts program n outer.left.0 outer.left.1 outer.right (one_grounded n (step.If outer.left.0 outer.left.1 outer.right) ss outer.made g) in
       leaves_one slots there objects is_part n (step.If outer.left.0 outer.left.1 outer.right) ss live
-      (if_still slots objects n outer.left.0 outer.left.1 outer.right (t outer.left.0 inner.first) (h outer.left.1 parts.first inner.second) (k outer.right parts.second outer.second))
+      (if_still slots objects n outer.left.0 outer.left.1 outer.right (t outer.left.0 inner.first) (h outer.left.1 inner.second) (k outer.right outer.second))
       outer.made
 
-  while_leaves : (there : Here) (objects : List ℕ) (is_part : Bool) (n : ℕ) (tested : Checked Expr) (c : Checked (List Stmt)) (ss : List Stmt) → Live there objects → ((e : Expr) → tested ≡ Right e → TermScoped objects (term_of e)) → PartScoped objects c → AreGrounded program (codes_of ss) → both tested c (while_of n) ≡ Right ss → Leaves slots there objects is_part ss
-  while_leaves there objects is_part n tested c ss live t h g e =
+  while_leaves : (there : Here) (objects : List ℕ) (is_part : Bool) (n : ℕ) (tested : Checked Expr) (c : Checked (List Stmt)) (ss : List Stmt) → Live there objects → ((e : Expr) → tested ≡ Right e → TermScoped objects (term_of e)) → PartScoped objects c → both tested c (while_of n) ≡ Right ss → Leaves slots there objects is_part ss
+  while_leaves there objects is_part n tested c ss live t h e =
       let parts = both_right tested c (while_of n) ss e in
-      let inside = while_part program n parts.left parts.right (one_grounded n (step.While parts.left parts.right) ss parts.made g) in
       leaves_one slots there objects is_part n (step.While parts.left parts.right) ss live
-      (while_still slots objects n parts.left parts.right (t parts.left parts.first) (h parts.right inside parts.second))
+      (while_still slots objects n parts.left parts.right (t parts.left parts.first) (h parts.right parts.second))
       parts.made
 
-  for_leaves : (there here : Here) (objects : List ℕ) (is_part : Bool) (p : Place) (init : Lines) (test : Option Written) (next : Lines) (body : Line) (n : ℕ) (c : Checked (List Stmt)) (ss : List Stmt) → Live there objects → Live here objects → IsHere program slots base here (λ m. takes_along m init (tail test next body m)) → AreProper init → PerhapsHasNumbers test → AreStatements next → AreProper next → AreDeclared slots base (line_behind scope frame (behind_head scope frame here init test next body) false body).locals → ((more : List ℕ) → Live (heads_behind scope frame here test next body init) more → PartScoped more c) → AreGrounded program (codes_of ss) → both (for_head rules scope frame here p init test next body) c (for_of n) ≡ Right ss → Leaves slots there objects is_part ss
-  for_leaves there here objects is_part p init test next body n c ss live inside_live h proper numbers statements steps declared k g e =
+  for_leaves : (there here : Here) (objects : List ℕ) (is_part : Bool) (p : Place) (init : Lines) (test : Option Written) (next : Lines) (body : Line) (n : ℕ) (c : Checked (List Stmt)) (ss : List Stmt) → Live there objects → Live here objects → IsHere program slots base here (λ m. takes_along m init (tail test next body m)) → AreProper init → PerhapsHasNumbers test → AreStatements next → AreProper next → AreDeclared slots base (line_behind scope frame (behind_head scope frame here init test next body) false body).locals → ((more : List ℕ) → Live (heads_behind scope frame here test next body init) more → PartScoped more c) → both (for_head rules scope frame here p init test next body) c (for_of n) ≡ Right ss → Leaves slots there objects is_part ss
+  for_leaves there here objects is_part p init test next body n c ss live inside_live h proper numbers statements steps declared k e =
       let all = both_right (for_head rules scope frame here p init test next body) c (for_of n) ss e in
       let head = head_right rules scope frame here p init test next body all.left all.first in
       let declared_first = head_declared program slots base scope frame known here init test next body statements declared in
@@ -171,28 +160,27 @@ module _ (program : Program) (slots : List Slot) (base : ℕ) (scope : Scope) (f
       let tested = perhaps_right program slots base scope frame known rules (sound slots) result behind (tail test next body) test inside (λ m q. or_left (perhaps_takes m test) (takes_along m next false || takes_at m body) q) numbers in
       let before_step = here_less program slots base behind (tail test next body) (λ m. takes_along m next false) inside (λ m q. or_left (takes_along m next false) (takes_at m body) (or_right (perhaps_takes m test) (takes_along m next false || takes_at m body) q)) in
       let declared_step = subst (λ (x : Here). AreDeclared slots base x.locals) (sym (steps_same scope frame behind next statements)) declared_first in
-      let parts = for_parts program n all.left.0.0 all.left.0.1 all.left.1 all.right (one_grounded n (step.For all.left.0.0 all.left.0.1 all.left.1 all.right) ss all.made g) in
-      let first = heads_leave here objects test next body init all.left.0.0 inside_live h proper declared_first parts.first head.first in
+      let first = heads_leave here objects test next body init all.left.0.0 inside_live h proper declared_first head.first in
       let more : List ℕ = behinds slots objects (codes_of all.left.0.0) in
       let live_behind : Live behind more = first.goes_on refl in
       leaves_one slots there objects is_part n (step.For all.left.0.0 all.left.0.1 all.left.1 all.right) ss live
       (for_still slots objects n all.left.0.0 all.left.0.1 all.left.1 all.right first.scoped
       (test_scoped behind more p test (tail test next body) all.left.0.1 live_behind inside tested head.condition)
-      (steps_scoped behind more next all.left.1 live_behind before_step statements steps declared_step parts.stepped head.stepped)
-      (k more live_behind all.right parts.turn all.second))
+      (steps_scoped behind more next all.left.1 live_behind before_step statements steps declared_step head.stepped)
+      (k more live_behind all.right all.second))
       all.made
 
   -- ---- all statements
 
   mutual
-    pub line_leaves : (here : Here) (objects : List ℕ) (in_loop is_part t : Bool) (l : Line) (rest : List ℕ → Bool) (ss : List Stmt) → Live here objects → IsHere program slots base here (in_front l rest) → IsProper l → IsTold t l rest → AreDeclared slots base (line_behind scope frame here t l).locals → AreGrounded program (codes_of ss) → line_made rules scope frame in_loop is_part here t l ≡ Right ss → Leaves slots (line_behind scope frame here t l) objects is_part ss
-    line_leaves here objects in_loop is_part t (Line.Block p ls) rest ss live h proper told declared g e =
+    pub line_leaves : (here : Here) (objects : List ℕ) (in_loop is_part t : Bool) (l : Line) (rest : List ℕ → Bool) (ss : List Stmt) → Live here objects → IsHere program slots base here (in_front l rest) → IsProper l → IsTold t l rest → AreDeclared slots base (line_behind scope frame here t l).locals → line_made rules scope frame in_loop is_part here t l ≡ Right ss → Leaves slots (line_behind scope frame here t l) objects is_part ss
+    line_leaves here objects in_loop is_part t (Line.Block p ls) rest ss live h proper told declared e =
         let inside = here_entered program slots base here (λ n. takes_along n ls false) (here_less program slots base here _ (λ n. takes_along n ls false) h (λ name q. or_left (takes_along name ls false) (rest name) q)) in
         let there : Here = line_behind scope frame here t (Line.Block p ls) in
         part_leaves there objects is_part (lines_made rules scope frame in_loop (entered here) ls) ss
         (live_same here there objects (line_grows scope frame here t (Line.Block p ls)) (names_keep scope frame here t (Line.Block p ls) refl proper) live)
-        (λ xs k q. (lines_leave (entered here) objects in_loop ls xs (live_entered here objects live) inside proper declared k q).scoped) g e
-    line_leaves here objects in_loop is_part t (Line.If p w one other) rest ss live h proper told declared g e =
+        (λ xs q. (lines_leave (entered here) objects in_loop ls xs (live_entered here objects live) inside proper declared q).scoped) e
+    line_leaves here objects in_loop is_part t (Line.If p w one other) rest ss live h proper told declared e =
         let there : Here = line_behind scope frame here t (Line.If p w one other) in
         let b : Here = line_behind scope frame (numbered here) false one in
         let all = here_less program slots base here _ (λ n. takes_in n w || (takes_at n one || takes_along n other false)) h (λ name q. or_left (takes_in name w || (takes_at name one || takes_along name other false)) (rest name) q) in
@@ -205,10 +193,10 @@ module _ (program : Program) (slots : List Slot) (base : ℕ) (scope : Scope) (f
         if_leaves there objects is_part here.number (condition rules scope here p w) (line_made rules scope frame in_loop true (numbered here) false one) (perhaps_made rules scope frame in_loop b other) ss
         (live_same here there objects (line_grows scope frame here t (Line.If p w one other)) (names_keep scope frame here t (Line.If p w one other) refl proper) live)
         (λ x q. condition_scoped here objects p w _ x live all right q)
-        (λ xs k q. (line_leaves (numbered here) objects in_loop true false one (λ n. false) xs live_part first proper.1.0.1 (told_none false one (λ n. false) proper.1.0.0) declared_first k q).scoped)
-        (λ xs k q. perhaps_scoped b objects in_loop other xs (part_live (numbered here) one objects live_part proper.1.0.0 proper.1.0.1) second proper.1.1.0 proper.1.1.1 declared k q)
-        g e
-    line_leaves here objects in_loop is_part t (Line.While p w body) rest ss live h proper told declared g e =
+        (λ xs q. (line_leaves (numbered here) objects in_loop true false one (λ n. false) xs live_part first proper.1.0.1 (told_none false one (λ n. false) proper.1.0.0) declared_first q).scoped)
+        (λ xs q. perhaps_scoped b objects in_loop other xs (part_live (numbered here) one objects live_part proper.1.0.0 proper.1.0.1) second proper.1.1.0 proper.1.1.1 declared q)
+        e
+    line_leaves here objects in_loop is_part t (Line.While p w body) rest ss live h proper told declared e =
         let there : Here = line_behind scope frame here t (Line.While p w body) in
         let all = here_less program slots base here _ (λ n. takes_in n w || takes_at n body) h (λ name q. or_left (takes_in name w || takes_at name body) (rest name) q) in
         let inside = here_numbered program slots base here _ (here_less program slots base here _ (in_front body (λ n. false)) all (λ name q. front_of_none body name (or_right (takes_in name w) (takes_at name body) q))) in
@@ -216,9 +204,9 @@ module _ (program : Program) (slots : List Slot) (base : ℕ) (scope : Scope) (f
         while_leaves there objects is_part here.number (condition rules scope here p w) (line_made rules scope frame true true (numbered here) false body) ss
         (live_same here there objects (line_grows scope frame here t (Line.While p w body)) (names_keep scope frame here t (Line.While p w body) refl proper) live)
         (λ x q. condition_scoped here objects p w _ x live all right q)
-        (λ xs k q. (line_leaves (numbered here) objects true true false body (λ n. false) xs (live_numbered here objects live) inside proper.1.1 (told_none false body (λ n. false) proper.1.0) declared k q).scoped)
-        g e
-    line_leaves here objects in_loop is_part t (Line.For p init test next body) rest ss live h proper told declared g e =
+        (λ xs q. (line_leaves (numbered here) objects true true false body (λ n. false) xs (live_numbered here objects live) inside proper.1.1 (told_none false body (λ n. false) proper.1.0) declared q).scoped)
+        e
+    line_leaves here objects in_loop is_part t (Line.For p init test next body) rest ss live h proper told declared e =
         let there : Here = line_behind scope frame here t (Line.For p init test next body) in
         let all = here_entered program slots base here _ (here_less program slots base here _ (λ n. takes_along n init (tail test next body n)) h (λ name q. or_left (takes_along name init (tail test next body name)) (rest name) q)) in
         let first = heads_here program slots base scope frame known (entered here) test next body init all proper.0.0 (head_declared program slots base scope frame known (entered here) init test next body proper.1.0.0 declared) in
@@ -227,25 +215,24 @@ module _ (program : Program) (slots : List Slot) (base : ℕ) (scope : Scope) (f
         for_leaves there (entered here) objects is_part p init test next body here.number (line_made rules scope frame true true b false body) ss
         (live_same here there objects (line_grows scope frame here t (Line.For p init test next body)) (names_keep scope frame here t (Line.For p init test next body) refl proper) live)
         (live_entered here objects live) all proper.0.0 proper.0.1 proper.1.0.0 proper.1.0.1 declared
-        (λ more live_behind xs k q. (line_leaves b more true true false body (λ n. false) xs (head_live (entered here) more init test next body proper.1.0.0 live_behind) inside proper.1.1.1 (told_none false body (λ n. false) proper.1.1.0) declared k q).scoped)
-        g e
-    line_leaves here objects in_loop is_part t l rest ss live h proper told declared g e =
-        numbered_leaves slots (simple_behind scope frame here t l) objects is_part ss (simple_leaves program slots base scope frame known rules sound plain result gives given here objects in_loop t l rest ss live h proper told declared g e)
+        (λ more live_behind xs q. (line_leaves b more true true false body (λ n. false) xs (head_live (entered here) more init test next body proper.1.0.0 live_behind) inside proper.1.1.1 (told_none false body (λ n. false) proper.1.1.0) declared q).scoped)
+        e
+    line_leaves here objects in_loop is_part t l rest ss live h proper told declared e =
+        numbered_leaves slots (simple_behind scope frame here t l) objects is_part ss (simple_leaves program slots base scope frame known rules sound plain result gives given here objects in_loop t l rest ss live h proper told declared e)
 
-    pub perhaps_scoped : (here : Here) (objects : List ℕ) (in_loop : Bool) (ls : Lines) (ss : List Stmt) → Live here objects → IsHere program slots base here (λ n. takes_along n ls false) → AreStatements ls → AreProper ls → AreDeclared slots base (perhaps_behind scope frame here ls).locals → AreGrounded program (codes_of ss) → perhaps_made rules scope frame in_loop here ls ≡ Right ss → CodesScoped slots objects (codes_of ss)
-    perhaps_scoped here objects in_loop Lines.End ss live h s proper declared g e = subst (λ xs. CodesScoped slots objects (codes_of xs)) (same_right [] ss e) tt
-    perhaps_scoped here objects in_loop (Lines.Then l ls) ss live h s proper declared g e = (line_leaves here objects in_loop true false l (λ n. takes_along n ls false) ss live h proper.0 (told_none false l (λ n. takes_along n ls false) s.0) declared g e).scoped
+    pub perhaps_scoped : (here : Here) (objects : List ℕ) (in_loop : Bool) (ls : Lines) (ss : List Stmt) → Live here objects → IsHere program slots base here (λ n. takes_along n ls false) → AreStatements ls → AreProper ls → AreDeclared slots base (perhaps_behind scope frame here ls).locals → perhaps_made rules scope frame in_loop here ls ≡ Right ss → CodesScoped slots objects (codes_of ss)
+    perhaps_scoped here objects in_loop Lines.End ss live h s proper declared e = subst (λ xs. CodesScoped slots objects (codes_of xs)) (same_right [] ss e) tt
+    perhaps_scoped here objects in_loop (Lines.Then l ls) ss live h s proper declared e = (line_leaves here objects in_loop true false l (λ n. takes_along n ls false) ss live h proper.0 (told_none false l (λ n. takes_along n ls false) s.0) declared e).scoped
 
-    pub lines_leave : (here : Here) (objects : List ℕ) (in_loop : Bool) (ls : Lines) (ss : List Stmt) → Live here objects → IsHere program slots base here (λ n. takes_along n ls false) → AreProper ls → AreDeclared slots base (lines_behind scope frame here ls).locals → AreGrounded program (codes_of ss) → lines_made rules scope frame in_loop here ls ≡ Right ss → Leaves slots (lines_behind scope frame here ls) objects false ss
-    lines_leave here objects in_loop Lines.End ss live h proper declared g e = leaves_none slots here objects false ss live e
-    lines_leave here objects in_loop (Lines.Then l ls) ss live h proper declared g e =
+    pub lines_leave : (here : Here) (objects : List ℕ) (in_loop : Bool) (ls : Lines) (ss : List Stmt) → Live here objects → IsHere program slots base here (λ n. takes_along n ls false) → AreProper ls → AreDeclared slots base (lines_behind scope frame here ls).locals → lines_made rules scope frame in_loop here ls ≡ Right ss → Leaves slots (lines_behind scope frame here ls) objects false ss
+    lines_leave here objects in_loop Lines.End ss live h proper declared e = leaves_none slots here objects false ss live e
+    lines_leave here objects in_loop (Lines.Then l ls) ss live h proper declared e =
         let t = is_taken l ls in
         let b : Here = line_behind scope frame here t l in
         let first = declared_before slots base b.locals (lines_behind scope frame b ls).locals _ (lines_grow scope frame b ls).locals_are declared in
         let next = line_here program slots base scope frame known here t l (λ n. takes_along n ls false) h proper.0 (told_line l ls) first in
         let parts = both_right (line_made rules scope frame in_loop false here t l) (lines_made rules scope frame in_loop b ls) appended ss e in
-        let grounded = subst (λ xs. AreGrounded program (codes_of xs)) (sym (same_right _ _ parts.made)) g in
         leaves_both slots b (lines_behind scope frame b ls) objects parts.left parts.right ss
-        (line_leaves here objects in_loop false t l (λ n. takes_along n ls false) parts.left live h proper.0 (told_line l ls) first (grounded_left program parts.left parts.right grounded) parts.first)
-        (λ more. lines_leave b (behinds slots objects (codes_of parts.left)) in_loop ls parts.right more next proper.1 declared (grounded_right program parts.left parts.right grounded) parts.second)
+        (line_leaves here objects in_loop false t l (λ n. takes_along n ls false) parts.left live h proper.0 (told_line l ls) first parts.first)
+        (λ more. lines_leave b (behinds slots objects (codes_of parts.left)) in_loop ls parts.right more next proper.1 declared parts.second)
         parts.made

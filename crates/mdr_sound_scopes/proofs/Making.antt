@@ -6,6 +6,7 @@ use Rattle.mdr_rich.specs.declared.code.Stmt.{Stmt}
 use Rattle.mdr_core.specs.declared.program.Local.{Local}
 use Rattle.mdr_core.specs.declared.program.Param.{Param}
 use Rattle.mdr_core.specs.declared.program.Program.{Program}
+use Rattle.mdr_core.specs.Folds.{codes_of as plain_codes_of}
 use Rattle.mdr_rich.specs.Folds.{codes_of}
 use Rattle.mdr_core.specs.Layout.{chosen}
 use Rattle.mdr_core.specs.Typing.{Slot, slot_of_param, slot_of_local}
@@ -27,23 +28,24 @@ use Rattle.mdr_body.specs.Locals.{named_local, parameter_taken, parameters_from,
 use Rattle.mdr_body.specs.Statements.{Rules, lines_behind, lines_made}
 use Rattle.mdr_meaning.specs.Lives.{object_params}
 use Rattle.mdr_lower.specs.Lowering.{lowered}
-use Rattle.mdr_lower.proofs.PlainForms.{lowered_same}
+use Rattle.mdr_lower.proofs.Typed.{new_at}
 use Rattle.mdr_program.specs.Parts.{marked}
-use Rattle.mdr_scoped.specs.Scopes.{is_there, CodesScoped as ArePlainScoped}
+use Rattle.mdr_scoped.specs.Scopes.{is_there, is_object, CodesScoped as ArePlainScoped}
 use Rattle.mdr_sound_code.specs.Knowing.{KnowsLocals}
-use Rattle.mdr_sound_bodies.specs.Grounded.{AreGrounded}
+use Rattle.mdr_sound_bodies.specs.Bodies.{made_work}
 use Rattle.mdr_sound_bodies.specs.Rules.{AreSoundRules}
 use Rattle.mdr_sound_bodies.specs.Within.{KnowsDeclarations, AreDeclared}
 use Rattle.mdr_sound_bodies.specs.Written.{AreNamed, AreProper}
 use Rattle.mdr_sound_bodies.proofs.Collecting.{all_declared}
 use Rattle.mdr_sound_bodies.proofs.Entering.{named_stands, parameter_at, parameters_here, params_many, marked_many}
-use Rattle.mdr_sound_bodies.proofs.Making.{IsHeaded, heading_right, rule_right, result_told, mapped_many}
+use Rattle.mdr_sound_bodies.proofs.Making.{IsHeaded, heading_right, rule_right, result_told, mapped_many, made_new, slots_are}
 use Rattle.mdr_sound_bodies.proofs.Scoping.{same_result}
 use Rattle.mdr_sound_scopes.specs.Named.{CodesScoped}
 use Rattle.mdr_sound_scopes.specs.Bodies.{ScopedWith, BodiesAreScoped}
 use Rattle.mdr_sound_scopes.specs.Plain.{ArePlainRules}
 use Rattle.mdr_sound_scopes.proofs.Living.{Live}
 use Rattle.mdr_sound_scopes.proofs.Lines.{lines_leave}
+use Rattle.mdr_sound_scopes.proofs.Lowered.{lowered_scoped}
 
 -- ---- parameters that are objects live from the beginning
 
@@ -127,12 +129,39 @@ module _ (program : Program) (scope : Scope) (body : Lines) (ds : List Decl) (pa
 abbrev AreScoped : List Slot → List Stmt → Type 0
 AreScoped slots ss = CodesScoped slots (object_params 0 slots) (codes_of ss)
 
-body_lowered : (slots : List Slot) (ss : List Stmt) → AreScoped slots ss → ScopedWith slots (Some (lowered ss))
-body_lowered slots ss h = subst (ArePlainScoped slots (object_params 0 slots)) (sym (lowered_same ss)) h
+-- ---- new slots, which are no objects
+
+none_object : (ls : List Local) → ((i : ℕ) (l : Local) → slice_get ls i ≡ Some l → l.object ≡ false) → (i : ℕ) → is_object (slice_get (map slot_of_local ls) i) ≡ false
+none_object [] h i = refl
+none_object (l ∷ ls) h zero = h 0 l refl
+none_object (l ∷ ls) h (suc i) = none_object ls (λ j x e. h (suc j) x e) i
+
+more_object : (slots : List Slot) (ls : List Local) → ((i : ℕ) (l : Local) → slice_get ls i ≡ Some l → l.object ≡ false) → (i : ℕ) → is_object (slice_get (slots ++ map slot_of_local ls) i) ≡ is_object (slice_get slots i)
+more_object [] ls h i = none_object ls h i
+more_object (s ∷ ss) ls h zero = refl
+more_object (s ∷ ss) ls h (suc i) = more_object ss ls h i
+
+no_params : (ls : List Local) (first : ℕ) → object_params first (map slot_of_local ls) ≡ []
+no_params [] first = refl
+no_params (l ∷ ls) first = by l.object (no_params ls (suc first)) where
+  by : (b : Bool) → object_params (suc first) (map slot_of_local ls) ≡ [] → chosen (b && false) (first ∷ object_params (suc first) (map slot_of_local ls)) (object_params (suc first) (map slot_of_local ls)) ≡ []
+  by true e = e
+  by false e = e
+
+more_params : (slots : List Slot) (ls : List Local) (first : ℕ) → object_params first (slots ++ map slot_of_local ls) ≡ object_params first slots
+more_params [] ls first = no_params ls first
+more_params (s ∷ ss) ls first = ap (λ (os : List ℕ). chosen (s.object && not s.is_local) (first ∷ os) os) (more_params ss ls (suc first))
+
+body_lowered : (slots : List Slot) (k : ℕ) (ss : List Stmt) → AreScoped slots ss → ((i : ℕ) (l : Local) → slice_get (lowered k ss).slots i ≡ Some l → l.object ≡ false) → ScopedWith (slots ++ map slot_of_local (lowered k ss).slots) (Some (lowered k ss).code)
+body_lowered slots k ss h none =
+    let new : List Local = (lowered k ss).slots in
+    let all : List Slot = slots ++ map slot_of_local new in
+    subst (λ os. ArePlainScoped all os (plain_codes_of (lowered k ss).code)) (sym (more_params slots new 0))
+    (lowered_scoped slots all (more_object slots new none) k ss (object_params 0 slots) h)
 
 module _ (program : Program) (rules : Rules) (scope : Scope) (h : Head) (nodes : List Node) (known : KnowsDeclarations program scope) where
-  made_scoped : (outer : Scope) → outer.tags ≡ scope.tags → (g : Heading) (siblings : List Candidate) (locals : List Local) (ss : List Stmt) → IsHeaded outer siblings h g → ((slots : List Slot) → AreSoundRules program slots scope rules) → ArePlainRules scope rules → AreNamed h.params → AreProper (lines_of nodes) → AreGrounded program (codes_of ss) → declared_locals (lines_behind scope (frame_of scope h) (first_here scope (lines_of nodes) h.params) (lines_of nodes)).locals ≡ Right locals → lines_made rules scope (frame_of scope h) false (first_here scope (lines_of nodes) h.params) (lines_of nodes) ≡ Right ss → AreScoped (map slot_of_param (marked (map (parameter_taken (lines_of nodes)) h.params) 0 g.params) ++ map slot_of_local locals) ss
-  made_scoped outer tags g siblings locals ss headed sound plain named proper grounded declared made =
+  made_scoped : (outer : Scope) → outer.tags ≡ scope.tags → (g : Heading) (siblings : List Candidate) (locals : List Local) (ss : List Stmt) → IsHeaded outer siblings h g → ((slots : List Slot) → AreSoundRules program slots scope rules) → ArePlainRules scope rules → AreNamed h.params → AreProper (lines_of nodes) → declared_locals (lines_behind scope (frame_of scope h) (first_here scope (lines_of nodes) h.params) (lines_of nodes)).locals ≡ Right locals → lines_made rules scope (frame_of scope h) false (first_here scope (lines_of nodes) h.params) (lines_of nodes) ≡ Right ss → AreScoped (map slot_of_param (marked (map (parameter_taken (lines_of nodes)) h.params) 0 g.params) ++ map slot_of_local locals) ss
+  made_scoped outer tags g siblings locals ss headed sound plain named proper declared made =
       let ls : Lines = lines_of nodes in
       let here : Here = first_here scope ls h.params in
       let params : List Param = marked (map (parameter_taken ls) h.params) 0 g.params in
@@ -144,12 +173,16 @@ module _ (program : Program) (rules : Rules) (scope : Scope) (h : Head) (nodes :
       let are = subst (λ k. AreDeclared all k (lines_behind scope (frame_of scope h) here ls).locals) base (all_declared front (lines_behind scope (frame_of scope h) here ls).locals locals declared) in
       let is_here = parameters_here program outer scope tags known siblings ls h.params g.params headed.params locals named in
       (lines_leave program all (length h.params) scope (frame_of scope h) known rules sound plain g.result (result_told program rules scope h nodes known g.result result) (known.results h g.result result) here (object_params 0 all) false ls ss
-      (first_live program scope ls h.params params locals many is_here.knows) is_here proper are grounded made).scoped
+      (first_live program scope ls h.params params locals many is_here.knows) is_here proper are made).scoped
 
 pub bodies_scoped : BodiesAreScoped
 bodies_scoped program rules scope h nodes g body name is_critical known sound plain made =
     let b = rule_right rules scope h nodes body made.body_is in
     let headed = heading_right made.front h g made.heading_is in
-    body_lowered (map slot_of_param (marked body.objects 0 g.params) ++ map slot_of_local body.locals) body.statements
-    (subst (λ os. AreScoped (map slot_of_param (marked os 0 g.params) ++ map slot_of_local body.locals) body.statements) b.marks
-    (made_scoped program rules scope h nodes known made.front made.tags g (map (candidate made.front) h.params) body.locals body.statements headed sound plain made.named made.proper made.grounded b.locals b.statements))
+    let front : List Slot = map slot_of_param (marked body.objects 0 g.params) in
+    let scoped : AreScoped (front ++ map slot_of_local body.locals) body.statements = subst (λ os. AreScoped (map slot_of_param (marked os 0 g.params) ++ map slot_of_local body.locals) body.statements) b.marks
+    (made_scoped program rules scope h nodes known made.front made.tags g (map (candidate made.front) h.params) body.locals body.statements headed sound plain made.named made.proper b.locals b.statements) in
+    let new = made_new program rules scope h nodes g body known sound made in
+    subst (λ (slots : List Slot). ScopedWith slots (Some (made_work g body).code)) (slots_are program rules scope h nodes g body known sound made)
+    (body_lowered (front ++ map slot_of_local body.locals) (length g.params + length body.locals) body.statements scoped
+    (λ i l e. ap (λ (x : Local). x.object) (new_at program (made_work g body).slots i l new e).is))

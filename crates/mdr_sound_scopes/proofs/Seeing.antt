@@ -1,13 +1,15 @@
 -- What is well typed over the slots that a place knows names only objects that live there.
-use Rattle.std.proofs.Common.{◌≡◌, inl, inr, ℕ, Bool, List, [], ◌∷◌, Option, Some, None}
+use Rattle.std.proofs.Common.{◌≡◌, ◌⊎◌, inl, inr, ℕ, Bool, List, [], ◌∷◌, Option, Some, None}
 use Rattle.mdr_core.specs.declared.code.BinOp.{BinOp}
 use Rattle.mdr_core.specs.declared.code.BinOp.TheVariants.{Add, Sub, Mul, Div, Rem, Shl, Shr, BitAnd, BitOr, BitXor}
 use Rattle.mdr_core.specs.declared.kind.Kind.{Kind}
 use Rattle.mdr_core.specs.declared.program.Program.{Program}
 use Rattle.mdr_core.specs.declared.types.Ty.{Ty}
-use Rattle.mdr_rich.specs.Code.{Term, Lvalue, Called, CallOf, Goal, Code}
+use Rattle.mdr_core.specs.declared.types.Ty.TheVariants as type
+use Rattle.mdr_core.specs.Services.{Service}
+use Rattle.mdr_rich.specs.Code.{Term, Lvalue, Called, Terms, CallOf, Goal, Code, term_list}
 use Rattle.mdr_core.specs.Typing.{Slot, Extent, One, Many, RightOperand, int}
-use Rattle.mdr_rich.specs.Typing.{Has, Designates, HaveAll, gives_by, CallGives, GoesTo, Returns, IsTyped}
+use Rattle.mdr_rich.specs.Typing.{Has, Designates, HasEach, AsksService, AsksBack, gives_by, CallGives, GoesTo, Returns, IsTyped}
 use Rattle.mdr_sound_scopes.specs.Named.{TermScoped, LvalueScoped, TermsScoped, CalleeScoped, FormScoped, GoalScoped, OptionScoped, CodeScoped, behind}
 use Rattle.mdr_sound_scopes.specs.Plain.{IsPlain}
 use Rattle.mdr_sound_scopes.proofs.Hiding.{hidden, object_there, array_there}
@@ -29,6 +31,11 @@ right_has BitAnd k P h = record { type = int k; has = h }
 right_has BitOr k P h = record { type = int k; has = h }
 right_has BitXor k P h = record { type = int k; has = h }
 
+-- the arguments of a service have some types
+asked : {program : Program} {have : List Ty → Type 0} {handles : Service → Type 0} {shape : Option Ty} {format : Option (List ℕ)} {n : ℕ} {result : Ty} {C : Type 0} → ((ts : List Ty) → have ts → C) → AsksService program have handles shape format n result ⊎ AsksBack have shape format n result → C
+asked f (inl h) = f h.signature.params h.args
+asked {result = result} f (inr h) = f (type.Fun (result ∷ h.param ∷ []) ∷ h.param ∷ []) h.args
+
 module _ (program : Program) (slots : List Slot) (objects : List ℕ) where
   abbrev Seen : List Slot
   Seen = hidden objects slots
@@ -38,9 +45,9 @@ module _ (program : Program) (slots : List Slot) (objects : List ℕ) where
   mutual
     pub term_scoped : (e : Term) (t : Ty) → Has program Seen e t → TermScoped objects e
     term_scoped (Term.Lit v) t h = tt
-    term_scoped (Term.Load p) t h = lvalue_scoped p (One t) h.object
-    term_scoped (Term.Addr p) t h = lvalue_scoped p (One h.type) h.object
-    term_scoped (Term.Decay p) t h = lvalue_scoped p (Many h.type h.count) h.array
+    term_scoped (Term.Load p) t h = lvalue_scoped p (One t) h.0.object
+    term_scoped (Term.Addr p) t h = lvalue_scoped p (One h.0.type) h.0.object
+    term_scoped (Term.Decay p) t h = lvalue_scoped p (Many h.0.type h.0.count) h.0.array
     term_scoped (Term.Neg k e) t h = term_scoped e (int k) h.operand
     term_scoped (Term.Flip k e) t h = term_scoped e (int k) h.operand
     term_scoped (Term.Not e) t h = term_scoped e (h.operand).type (h.operand).operand
@@ -53,29 +60,33 @@ module _ (program : Program) (slots : List Slot) (objects : List ℕ) where
     term_scoped (Term.Conv k e) t h = term_scoped e (int h.from) h.operand
     term_scoped (Term.ToVoid e) t h = term_scoped e _ h.pointer
     term_scoped (Term.FromVoid u e) t h = term_scoped e _ h.pointer
-    term_scoped (Term.Move back p i) t h = (term_scoped p _ h.pointer, term_scoped i (int h.kind) h.steps)
+    term_scoped (Term.Move back p i) t h = (term_scoped p _ h.0.pointer, term_scoped i (int h.0.kind) h.0.steps)
     term_scoped (Term.Diff p q) t h = (term_scoped p _ h.left, term_scoped q _ h.right)
+    term_scoped (Term.Cond u c a b) t h = (term_scoped c (h.test).type (h.test).operand, term_scoped a u h.one, term_scoped b u h.other)
+    term_scoped (Term.Call u (Called.Direct f) args shape format) t h = (tt, each_scoped args _ (h.gives).call_is.args)
+    term_scoped (Term.Call u (Called.Through e) args shape format) t h = (term_scoped e _ (h.gives).pointer, each_scoped args _ (h.gives).call_is.args)
+    term_scoped (Term.Call u (Called.Service n) args shape format) t h = (tt, asked (λ ts k. each_scoped args ts k) h.gives)
+    term_scoped (Term.Bump u up first p) t h = lvalue_scoped p (One u) h.object
 
     pub lvalue_scoped : (p : Lvalue) (x : Extent) → Designates program Seen p x → LvalueScoped objects p
-    lvalue_scoped (Lvalue.Slot i) x h = tt
-    lvalue_scoped (Lvalue.Object i) x h = object_there objects slots i h.slot h.names h.kept
-    lvalue_scoped (Lvalue.Global g) x h = tt
-    lvalue_scoped (Lvalue.Deref e) x h = term_scoped e _ h.pointer
-    lvalue_scoped (Lvalue.Member p f) x h = lvalue_scoped p _ h.whole
-    lvalue_scoped (Lvalue.Index p e) x h = (lvalue_scoped p (Many h.type h.count) h.array, term_scoped e (int h.kind) h.index)
+    lvalue_scoped (Lvalue.Slot i t) x h = tt
+    lvalue_scoped (Lvalue.Object i t) x h = object_there objects slots i h.0.slot h.0.names h.0.kept
+    lvalue_scoped (Lvalue.Global g t) x h = tt
+    lvalue_scoped (Lvalue.Deref e) x h = term_scoped e _ h.0.pointer
+    lvalue_scoped (Lvalue.Member p f t) x h = lvalue_scoped p _ h.0.whole
+    lvalue_scoped (Lvalue.Index p e) x h = (lvalue_scoped p (Many h.0.type h.0.count) h.0.array, term_scoped e (int h.0.kind) h.0.index)
+
+    each_scoped : (es : Terms) (ts : List Ty) → HasEach program Seen es ts → TermsScoped objects es
+    each_scoped Terms.End ts h = tt
+    each_scoped (Terms.Then e es) [] h = absurd h
+    each_scoped (Terms.Then e es) (t ∷ ts) h = (term_scoped e t h.0, each_scoped es ts h.1)
 
   -- ---- calls
 
-  terms_scoped : (es : List Term) (ts : List Ty) → HaveAll program Seen es ts → TermsScoped objects es
-  terms_scoped [] ts h = tt
-  terms_scoped (e ∷ es) [] h = absurd h
-  terms_scoped (e ∷ es) (t ∷ ts) h = (term_scoped e t h.0, terms_scoped es ts h.1)
-
-  called_scoped : (c : Called) (call : CallOf) (t : Ty) → gives_by c program Seen call t → CalleeScoped objects c × TermsScoped objects call.args
-  called_scoped (Called.Direct f) call t h = (tt, terms_scoped call.args _ (h.call_is).args)
-  called_scoped (Called.Through e) call t h = (term_scoped e _ h.pointer, terms_scoped call.args _ (h.call_is).args)
-  called_scoped (Called.Service n) call t (inl h) = (tt, terms_scoped call.args _ h.args)
-  called_scoped (Called.Service n) call t (inr h) = (tt, terms_scoped call.args _ h.args)
+  called_scoped : (c : Called) (call : CallOf) (t : Ty) → gives_by c program Seen call t → CalleeScoped objects c × TermsScoped objects (term_list call.args)
+  called_scoped (Called.Direct f) call t h = (tt, each_scoped (term_list call.args) _ (h.call_is).args)
+  called_scoped (Called.Through e) call t h = (term_scoped e _ h.pointer, each_scoped (term_list call.args) _ (h.call_is).args)
+  called_scoped (Called.Service n) call t h = (tt, asked (λ ts k. each_scoped (term_list call.args) ts k) h)
 
   form_scoped : (call : CallOf) (t : Ty) → CallGives program Seen call t → FormScoped objects call
   form_scoped call t h = called_scoped call.callee call t h

@@ -1,5 +1,5 @@
 -- Statements without parts name objects only where they live.
-use Rattle.std.proofs.Common.{◌≡◌, ◌⊎◌, ℕ, ◌≤◌, Bool, false, List, [], ◌∷◌, length, Option, Some, None, Ok, refl, sym, ap, ◌∙◌, subst}
+use Rattle.std.proofs.Common.{◌≡◌, ◌⊎◌, ℕ, ◌≤◌, Bool, false, List, length, Option, Some, None, Ok, refl, sym, ap, ◌∙◌, subst}
 use Rattle.mdr_rich.specs.declared.code.Step.{Step}
 use Rattle.mdr_rich.specs.declared.code.Step.TheVariants as step
 use Rattle.mdr_rich.specs.declared.code.Stmt.{Stmt}
@@ -9,7 +9,7 @@ use Rattle.mdr_core.specs.declared.types.Ty.{Ty}
 use Rattle.mdr_core.specs.declared.types.Ty.TheVariants as type
 use Rattle.mdr_core.specs.Code.{Way}
 use Rattle.mdr_rich.specs.Code.{Code, Codes}
-use Rattle.mdr_rich.specs.Folds.{code_of, codes_of}
+use Rattle.mdr_rich.specs.Folds.{code_of}
 use Rattle.mdr_core.specs.Types.{Scalar, sort_of}
 use Rattle.mdr_core.specs.Typing.{Slot}
 use Rattle.mdr_rich.proofs.Coded.{code_is, declare_is, text_is, return_is, break_is, continue_is, empty_is}
@@ -28,12 +28,10 @@ use Rattle.mdr_body.specs.Addresses.{takes_in, perhaps_takes, takes_at}
 use Rattle.mdr_body.specs.Statements.{Rules, stmt, single, stated, text_of, takes_text, is_single, own_place, initial_by, initial_step, declared_then, local_made, return_by, return_step, simple_made, simple_behind}
 use Rattle.mdr_sound_code.specs.Knowing.{KnowsLocals}
 use Rattle.mdr_sound_code.proofs.Rights.{not_right, same_right, after_right, chosen_right, refused_right}
-use Rattle.mdr_sound_bodies.specs.Grounded.{IsGrounded, AreGrounded}
 use Rattle.mdr_sound_bodies.specs.Rules.{IsSoundStep, IsRight, AreSoundRules}
 use Rattle.mdr_sound_bodies.specs.Written.{IsProper}
 use Rattle.mdr_sound_bodies.specs.Within.{KnowsDeclarations, AreDeclared, in_front, IsTold, IsHere}
 use Rattle.mdr_sound_bodies.proofs.Joined.{or_left, or_right}
-use Rattle.mdr_sound_bodies.proofs.Coding.{grounded_head, grounded_tail}
 use Rattle.mdr_sound_bodies.proofs.Declaring.{IsAt, local_at}
 use Rattle.mdr_sound_bodies.proofs.Going.{here_local}
 use Rattle.mdr_sound_bodies.proofs.Stating.{jump_right, return_sound, initial_sound, perhaps_right, written_right}
@@ -75,8 +73,8 @@ module _ (scope : Scope) (rules : Rules) (plain : ArePlainRules scope rules) whe
       let c = chosen_right (takes_text o (length bytes)) (Right (step.Text i bytes)) p Mismatch s e in
       subst IsPlainStep (same_right _ _ c.right) (text_plain i bytes)
   initial_by_plain names p i t w None o s e =
-      let c = chosen_right (is_single o) (rules.stored scope names p (own_place (is_own_object t o) i) o.ty w) p Mismatch s e in
-      plain.stored names p (own_place (is_own_object t o) i) o.ty w s c.right
+      let c = chosen_right (is_single o) (rules.stored scope names p (own_place (is_own_object t o) i o.ty) o.ty w) p Mismatch s e in
+      plain.stored names p (own_place (is_own_object t o) i o.ty) o.ty w s c.right
 
   initial_plain : (frame : Frame) (here : Here) (t : Bool) (d : Decl) (w : Written) (s : Step) → initial_step rules scope frame here t d w ≡ Right s → IsPlainStep s
   unfolding initial_step
@@ -121,74 +119,72 @@ module _ (slots : List Slot) where
 
 module _ (program : Program) (slots : List Slot) (result : Ty) where
   -- a plain step that is well typed over the slots that are known at its place
-  step_still : (objects : List ℕ) (n : ℕ) (s : Step) → IsSoundStep program (hidden objects slots) result s → IsPlainStep s → 1 ≤ n → IsGrounded program (code_of (stmt n s)) → IsStill slots objects (code_of (stmt n s))
-  step_still objects n s sound plain some g = record {
-    scoped = code_scoped program slots objects result false (code_of (stmt n s)) (plain n) (sound n false some g);
+  step_still : (objects : List ℕ) (n : ℕ) (s : Step) → IsSoundStep program (hidden objects slots) result s → IsPlainStep s → 1 ≤ n → IsStill slots objects (code_of (stmt n s))
+  step_still objects n s sound plain some = record {
+    scoped = code_scoped program slots objects result false (code_of (stmt n s)) (plain n) (sound n false some);
     still = plain_behind program slots objects (code_of (stmt n s)) (plain n);
   }
 
-  stated_leaves : (there : Here) (objects : List ℕ) (n : ℕ) (c : Checked Step) (ss : List Stmt) → Live there objects → ((s : Step) → c ≡ Right s → IsSoundStep program (hidden objects slots) result s) → ((s : Step) → c ≡ Right s → IsPlainStep s) → 1 ≤ n → AreGrounded program (codes_of ss) → stated n c ≡ Right ss → Leaves slots there objects false ss
-  stated_leaves there objects n c ss live sound plain some g e =
+  stated_leaves : (there : Here) (objects : List ℕ) (n : ℕ) (c : Checked Step) (ss : List Stmt) → Live there objects → ((s : Step) → c ≡ Right s → IsSoundStep program (hidden objects slots) result s) → ((s : Step) → c ≡ Right s → IsPlainStep s) → 1 ≤ n → stated n c ≡ Right ss → Leaves slots there objects false ss
+  stated_leaves there objects n c ss live sound plain some e =
       let a = after_right c (single n) ss e in
-      let grounded = subst (λ xs. AreGrounded program (codes_of xs)) (sym (same_right _ _ a.made)) g in
-      leaves_one slots there objects false n a.value ss live (step_still objects n a.value (sound a.value a.right) (plain a.value a.right) some (grounded_head program (code_of (stmt n a.value)) Codes.End grounded)) a.made
+      leaves_one slots there objects false n a.value ss live (step_still objects n a.value (sound a.value a.right) (plain a.value a.right) some) a.made
 
 -- ---- any of them
 
 module _ (program : Program) (slots : List Slot) (base : ℕ) (scope : Scope) (frame : Frame) (known : KnowsDeclarations program scope) (rules : Rules) (sound : (seen : List Slot) → AreSoundRules program seen scope rules) (plain : ArePlainRules scope rules) (result : Ty) (gives : frame.result ≡ Ok result) (given : (sort_of (length program.structs) result ≡ Scalar) ⊎ (result ≡ type.Void)) where
-  local_leaves : (here : Here) (objects : List ℕ) (t : Bool) (d : Decl) (init : Option Written) (ss : List Stmt) → 1 ≤ here.number → Live here objects → IsAt slots scope frame.locks here.slot t d → KnowsLocals program slots (with_local scope frame.locks t d here).names → ((v : Written) → init ≡ Some v → IsRight (with_local scope frame.locks t d here).names v) → AreGrounded program (codes_of ss) → local_made rules scope frame here t d init ≡ Right ss → Leaves slots (with_local scope frame.locks t d here) objects false ss
+  local_leaves : (here : Here) (objects : List ℕ) (t : Bool) (d : Decl) (init : Option Written) (ss : List Stmt) → 1 ≤ here.number → Live here objects → IsAt slots scope frame.locks here.slot t d → KnowsLocals program slots (with_local scope frame.locks t d here).names → ((v : Written) → init ≡ Some v → IsRight (with_local scope frame.locks t d here).names v) → local_made rules scope frame here t d init ≡ Right ss → Leaves slots (with_local scope frame.locks t d here) objects false ss
   unfolding local_made
-  local_leaves here objects t d None ss some live at knows right g e =
+  local_leaves here objects t d None ss some live at knows right e =
       let there : Here = with_local scope frame.locks t d here in
       let n = here.number in
       let one = declared_one slots there objects n here.slot (code_of (stmt n (step.Declare here.slot))) (declare_code slots n here.slot) (none_declared here objects live) (live_local slots scope frame.locks here objects t d at live) in
       subst (λ xs. Leaves slots there objects false xs) (same_right _ _ e) (record { scoped = one.0; goes_on = λ q. one.1 })
-  local_leaves here objects t d (Some w) ss some live at knows right g e =
+  local_leaves here objects t d (Some w) ss some live at knows right e =
       let there : Here = with_local scope frame.locks t d here in
       let n = here.number in
       let a = after_right (initial_step rules scope frame here t d w) (declared_then n here.slot) ss e in
       let first : Stmt = stmt n (step.Declare here.slot) in
       let second : Stmt = stmt n a.value in
-      let grounded = subst (λ xs. AreGrounded program (codes_of xs)) (sym (same_right _ _ a.made)) g in
       let more : List ℕ = behind slots objects (Code.Declare n here.slot) in
       let live_there = live_local slots scope frame.locks here objects t d at live in
       let good = initial_sound program (hidden more slots) base scope frame known rules (sound (hidden more slots)) result here t d w a.value (at_hidden slots scope frame.locks here objects t d at) (knows_hidden program slots there more knows live_there) (right w refl) a.right in
-      let still = step_still program slots result more n a.value good (initial_plain scope rules plain frame here t d w a.value a.right) some (grounded_head program (code_of second) Codes.End (grounded_tail program (code_of first) (codes_of (second ∷ [])) grounded)) in
+      let still = step_still program slots result more n a.value good (initial_plain scope rules plain frame here t d w a.value a.right) some in
       let two = declared_two slots there objects n here.slot (code_of first) (code_of second) (declare_code slots n here.slot) (none_declared here objects live) live_there still in
       subst (λ xs. Leaves slots there objects false xs) (same_right _ _ a.made) (record { scoped = two.0; goes_on = λ q. two.1 })
 
-  pub simple_leaves : (here : Here) (objects : List ℕ) (in_loop t : Bool) (l : Line) (rest : List ℕ → Bool) (ss : List Stmt) → Live here objects → IsHere program slots base here (in_front l rest) → IsProper l → IsTold t l rest → AreDeclared slots base (simple_behind scope frame here t l).locals → AreGrounded program (codes_of ss) → simple_made rules scope frame in_loop here t l ≡ Right ss → Leaves slots (simple_behind scope frame here t l) objects false ss
-  simple_leaves here objects in_loop t (Line.Empty p) rest ss live h proper told declared g e = leaves_one slots here objects false here.number step.Empty ss live (still_empty slots objects here.number) e
-  simple_leaves here objects in_loop t (Line.Block p ls) rest ss live h proper told declared g e = not_right _ ss e
-  simple_leaves here objects in_loop t (Line.Local p d init) rest ss live h proper told declared g e =
+  pub simple_leaves : (here : Here) (objects : List ℕ) (in_loop t : Bool) (l : Line) (rest : List ℕ → Bool) (ss : List Stmt) → Live here objects → IsHere program slots base here (in_front l rest) → IsProper l → IsTold t l rest → AreDeclared slots base (simple_behind scope frame here t l).locals → simple_made rules scope frame in_loop here t l ≡ Right ss → Leaves slots (simple_behind scope frame here t l) objects false ss
+  simple_leaves here objects in_loop t (Line.Empty p) rest ss live h proper told declared e = leaves_one slots here objects false here.number step.Empty ss live (still_empty slots objects here.number) e
+  simple_leaves here objects in_loop t (Line.Block p ls) rest ss live h proper told declared e = not_right _ ss e
+  simple_leaves here objects in_loop t (Line.Local p d init) rest ss live h proper told declared e =
       let behind_it = here_local program slots base scope frame known here t p d init rest h proper.0 told declared in
       local_leaves here objects t d init ss h.number live (local_at slots base scope frame.locks here t d h.slot declared) behind_it.knows
       (perhaps_right program slots base scope frame known rules (sound slots) result (with_local scope frame.locks t d here) _ init behind_it (λ name n. or_left (perhaps_takes name init) (rest name) n) proper.1)
-      g e
-  simple_leaves here objects in_loop t (Line.Assign p at op x y) rest ss live h proper told declared g e =
+      e
+  simple_leaves here objects in_loop t (Line.Assign p at op x y) rest ss live h proper told declared e =
       let first = written_right program slots base scope frame known rules (sound slots) result here _ x h (λ name n. or_left (takes_in name x) _ (or_left (takes_at name (Line.Assign p at op x y)) _ n)) proper.0 in
       let second = written_right program slots base scope frame known rules (sound slots) result here _ y h (λ name n. or_right (takes_in name x) _ (or_left (takes_at name (Line.Assign p at op x y)) _ n)) proper.1 in
       let seen = knows_hidden program slots here objects h.knows live in
       stated_leaves program slots result here objects here.number (rules.assigned scope here.names at op x y) ss live
-      (λ s is. (sound (hidden objects slots)).assigned here.names at op x y s result seen first second is) (plain.assigned here.names at op x y) h.number g e
-  simple_leaves here objects in_loop t (Line.Plain p w) rest ss live h proper told declared g e =
+      (λ s is. (sound (hidden objects slots)).assigned here.names at op x y s result seen first second is) (plain.assigned here.names at op x y) h.number e
+  simple_leaves here objects in_loop t (Line.Plain p w) rest ss live h proper told declared e =
       let right = written_right program slots base scope frame known rules (sound slots) result here _ w h (λ name n. or_left (takes_at name (Line.Plain p w)) _ n) proper in
       let seen = knows_hidden program slots here objects h.knows live in
       stated_leaves program slots result here objects here.number (rules.called scope here.names w) ss live
-      (λ s is. (sound (hidden objects slots)).called here.names w s result seen right is) (plain.called here.names w) h.number g e
-  simple_leaves here objects in_loop t (Line.If p w one other) rest ss live h proper told declared g e = not_right _ ss e
-  simple_leaves here objects in_loop t (Line.While p w body) rest ss live h proper told declared g e = not_right _ ss e
-  simple_leaves here objects in_loop t (Line.For p init test next body) rest ss live h proper told declared g e = not_right _ ss e
-  simple_leaves here objects in_loop t (Line.Do p body w) rest ss live h proper told declared g e = not_right _ ss e
-  simple_leaves here objects in_loop t (Line.Switch p w cs) rest ss live h proper told declared g e = not_right _ ss e
-  simple_leaves here objects in_loop t (Line.Return p w) rest ss live h proper told declared g e =
+      (λ s is. (sound (hidden objects slots)).called here.names w s result seen right is) (plain.called here.names w) h.number e
+  simple_leaves here objects in_loop t (Line.If p w one other) rest ss live h proper told declared e = not_right _ ss e
+  simple_leaves here objects in_loop t (Line.While p w body) rest ss live h proper told declared e = not_right _ ss e
+  simple_leaves here objects in_loop t (Line.For p init test next body) rest ss live h proper told declared e = not_right _ ss e
+  simple_leaves here objects in_loop t (Line.Do p body w) rest ss live h proper told declared e = not_right _ ss e
+  simple_leaves here objects in_loop t (Line.Switch p w cs) rest ss live h proper told declared e = not_right _ ss e
+  simple_leaves here objects in_loop t (Line.Return p w) rest ss live h proper told declared e =
       let right = perhaps_right program slots base scope frame known rules (sound slots) result here _ w h (λ name n. or_left (takes_at name (Line.Return p w)) _ n) proper in
       let seen = knows_hidden program slots here objects h.knows live in
       stated_leaves program slots result here objects here.number (return_step rules scope frame here p w) ss live
-      (λ s is. return_sound program (hidden objects slots) base scope frame known rules (sound (hidden objects slots)) result here p w s gives given seen right is) (return_step_plain scope rules plain frame here p w) h.number g e
-  simple_leaves here objects in_loop t (Line.Break p) rest ss live h proper told declared g e =
+      (λ s is. return_sound program (hidden objects slots) base scope frame known rules (sound (hidden objects slots)) result here p w s gives given seen right is) (return_step_plain scope rules plain frame here p w) h.number e
+  simple_leaves here objects in_loop t (Line.Break p) rest ss live h proper told declared e =
       let j = jump_right program slots result p in_loop here.number step.Break ss e in
       leaves_one slots here objects false here.number step.Break ss live (still_break slots objects here.number) (ap Right (sym j.is))
-  simple_leaves here objects in_loop t (Line.Continue p) rest ss live h proper told declared g e =
+  simple_leaves here objects in_loop t (Line.Continue p) rest ss live h proper told declared e =
       let j = jump_right program slots result p in_loop here.number step.Continue ss e in
       leaves_one slots here objects false here.number step.Continue ss live (still_continue slots objects here.number) (ap Right (sym j.is))

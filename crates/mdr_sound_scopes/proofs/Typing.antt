@@ -1,5 +1,5 @@
 -- What the profile's rules of assignments, calls, initialisers and returns give are plain steps.
-use Rattle.std.proofs.Common.{ℕ, List, Option, Some, None, refl, ◌∙◌, subst}
+use Rattle.std.proofs.Common.{ℕ, Bool, true, false, not, ◌&&◌, List, Option, Some, None, refl, ◌∙◌, subst}
 use Rattle.mdr_rich.specs.declared.code.CallForm.{CallForm}
 use Rattle.mdr_rich.specs.declared.code.Expr.{Expr}
 use Rattle.mdr_rich.specs.declared.code.Lval.{Lval}
@@ -7,6 +7,7 @@ use Rattle.mdr_rich.specs.declared.code.Step.{Step}
 use Rattle.mdr_rich.specs.declared.code.Step.TheVariants as step
 use Rattle.mdr_core.specs.declared.place.Place.{Place}
 use Rattle.mdr_core.specs.declared.types.Ty.{Ty}
+use Rattle.mdr_core.specs.Layout.{chosen}
 use Rattle.mdr_rich.specs.Code.{Code, Goal}
 use Rattle.mdr_rich.specs.Folds.{call_of, goal_of, lvalue_of, term_of}
 use Rattle.mdr_rich.proofs.Coded.{code_is, assign_is, call_is, return_is, return_call_is}
@@ -14,22 +15,21 @@ use Rattle.mdr_faults.specs.declared.scope.Scope.{Scope}
 use Rattle.mdr_faults.specs.Faults.{Checked, Right, after}
 use Rattle.mdr_operand.specs.declared.operand.Operand.{Operand}
 use Rattle.mdr_operand.specs.declared.operator.AssignmentOperator.{AssignmentOperator}
-use Rattle.mdr_operand.specs.declared.operator.AssignmentOperator.TheVariants.{Plain, Compound}
 use Rattle.mdr_operand.specs.declared.room.LocalName.{LocalName}
 use Rattle.mdr_operand.specs.Converting.{converted_at}
 use Rattle.mdr_operand.specs.Signs.{assignment_operator}
 use Rattle.mdr_operand.specs.Written.{Written}
-use Rattle.mdr_express.specs.Expressions.{typed}
+use Rattle.mdr_operand.specs.Forms.{is_active_operand}
+use Rattle.mdr_express.specs.Expressions.{typed, call_at}
 use Rattle.mdr_call.specs.declared.parts.TypedCall.{TypedCall}
+use Rattle.mdr_call.specs.Calls.{call_value}
 use Rattle.mdr_assign.specs.declared.assignment.Assignment.{Assignment}
-use Rattle.mdr_assign.specs.declared.assignment.Destination.{Destination}
 use Rattle.mdr_assign.specs.Assignments.{assignment_rule, destination_at, step_operator, step_rule}
 use Rattle.mdr_body.specs.Statements.{stmt}
 use Rattle.mdr_typing.specs.declared.source.Source.{Source}
 use Rattle.mdr_typing.specs.declared.source.Source.TheVariants as source
-use Rattle.mdr_typing.specs.Calling.{call_at}
 use Rattle.mdr_typing.specs.Profile.{assigned, calling, stepped, called, stored, returned, profile_rules}
-use Rattle.mdr_typing.specs.Sources.{source_of, call_as, value_to, call_to, source_stored, value_back, call_back, source_returned, assigning, call_assigned, source_assigned}
+use Rattle.mdr_typing.specs.Sources.{source_of, call_as, value_to, call_to, source_stored, value_back, call_back, source_returned, assigning, is_plain, value_assigned, call_assigned, source_assigned}
 use Rattle.mdr_sound_code.proofs.Rights.{not_right, same_right, after_right, both_right}
 use Rattle.mdr_sound_scopes.specs.Plain.{IsPlainStep, GivesPlain, ArePlainRules}
 use Rattle.mdr_sound_scopes.proofs.Steps.{plain_is}
@@ -72,23 +72,32 @@ returned_gives p t (source.Call c) s e =
     let a = after_right (call_as p t c) call_back s e in
     gives (step.ReturnCall a.value) (return_call_plain a.value) s a.made
 
-call_assigned_gives : (p : Place) (op : Option AssignmentOperator) (c : TypedCall) (d : Destination) → GivesPlain (call_assigned p op c d)
+call_assigned_gives : (p : Place) (x : Operand) (c : TypedCall) → GivesPlain (call_assigned p x c)
 unfolding call_assigned
-call_assigned_gives p None c d s e = not_right _ s e
-call_assigned_gives p (Some Plain) c d s e = stored_gives p d.object d.ty (source.Call c) s e
-call_assigned_gives p (Some (Compound op)) c d s e = not_right _ s e
+call_assigned_gives p x c s e =
+    let a = after_right (destination_at p x) (λ d. source_stored p d.object d.ty (source.Call c)) s e in
+    stored_gives p a.value.object a.value.ty (source.Call c) s a.made
 
 assigning_gives : (c : Checked Assignment) → GivesPlain (after c assigning)
 assigning_gives c s e =
     let a = after_right c assigning s e in
     gives (step.Assign a.value.left a.value.right) (assign_plain a.value.left a.value.right) s a.made
 
+value_assigned_gives : (scope : Scope) (p : Place) (op : Option AssignmentOperator) (x y : Operand) → GivesPlain (value_assigned scope p op x y)
+unfolding value_assigned
+value_assigned_gives scope p op x y s e = assigning_gives (assignment_rule scope p op (Right x) (Right y)) s e
+
+-- a call, by itself or as a part
+call_by_gives : (scope : Scope) (p : Place) (op : Option AssignmentOperator) (x : Operand) (c : TypedCall) (b : Bool) → GivesPlain (chosen b (call_assigned p x c) (after (call_value p c) (value_assigned scope p op x)))
+call_by_gives scope p op x c true s e = call_assigned_gives p x c s e
+call_by_gives scope p op x c false s e =
+    let a = after_right (call_value p c) (value_assigned scope p op x) s e in
+    value_assigned_gives scope p op x a.value s a.made
+
 source_assigned_gives : (scope : Scope) (p : Place) (op : Option AssignmentOperator) (x : Operand) (src : Source) → GivesPlain (source_assigned scope p op x src)
 unfolding source_assigned
-source_assigned_gives scope p op x (source.Value y) s e = assigning_gives (assignment_rule scope p op (Right x) (Right y)) s e
-source_assigned_gives scope p op x (source.Call c) s e =
-    let a = after_right (destination_at p x) (call_assigned p op c) s e in
-    call_assigned_gives p op c a.value s a.made
+source_assigned_gives scope p op x (source.Value y) s e = value_assigned_gives scope p op x y s e
+source_assigned_gives scope p op x (source.Call c) s e = call_by_gives scope p op x c (is_plain op && not (is_active_operand x)) s e
 
 -- ---- the rules
 

@@ -15,7 +15,7 @@ use Rattle.mdr_body.specs.Statements.{Rules}
 use Rattle.mdr_program.specs.Parts.{whole}
 use Rattle.mdr_meaning.specs.Lives.{object_params}
 use Rattle.mdr_scoped.specs.Scopes.{CodesScoped}
-use Rattle.mdr_sound_bodies.specs.Bodies.{IsMade}
+use Rattle.mdr_sound_bodies.specs.Bodies.{IsComposed}
 use Rattle.mdr_sound_bodies.specs.Rules.{AreSoundRules}
 use Rattle.mdr_sound_bodies.specs.Within.{KnowsDeclarations}
 use Rattle.mdr_sound_scopes.specs.Plain.{ArePlainRules}
@@ -31,4 +31,4 @@ IsScopedFunc func = ScopedWith (slots_of func) func.body
 
 -- a function that is made of a head and a body is so, if the rules of what stands in statements are sound, and give plain steps
 abbrev pub BodiesAreScoped : Type 0
-BodiesAreScoped = (program : Program) (rules : Rules) (scope : Scope) (h : Head) (nodes : List Node) (g : Heading) (body : Body) (name : List ℕ) (is_critical : Bool) → KnowsDeclarations program scope → ((slots : List Slot) → AreSoundRules program slots scope rules) → ArePlainRules scope rules → IsMade program rules scope h nodes g body → IsScopedFunc (whole name is_critical g body)
+BodiesAreScoped = (program : Program) (rules : Rules) (scope : Scope) (h : Head) (nodes : List Node) (g : Heading) (body : Body) (name : List ℕ) (is_critical : Bool) → KnowsDeclarations program scope → ((slots : List Slot) → AreSoundRules program slots scope rules) → ArePlainRules scope rules → IsComposed rules scope h nodes g body → IsScopedFunc (whole name is_critical g body)

@@ -33,17 +33,12 @@ assign op w = Line.Assign here here op x w
 abbrev pub choice : Written
 choice = Written.Choice here x one one
 
--- `f();` `f(1);` `x = f();` `return f();` `x += 1;` `for (x = f(); x; x += 1) f();`
+-- `f(f());` `x += f();` `return x++;` `if (++x) ;` `while (x ? 1 : 1) ;` `for (x = f(); x; x += 1) f();`
 abbrev pub built : List Line
 built =
-    Line.Plain here (call Writtens.End) ∷ Line.Plain here (call (with one)) ∷ assign (codes "=") (call Writtens.End) ∷ Line.Return here (Some (call Writtens.End))
-    ∷ assign (codes "+=") one
+    Line.Plain here (call (with (call Writtens.End))) ∷ assign (codes "+=") (call Writtens.End) ∷ Line.Return here (Some behind) ∷ Line.If here in_front (Line.Empty here) Lines.End ∷ Line.While here choice (Line.Empty here)
     ∷ Line.For here (Lines.Then (assign (codes "=") (call Writtens.End)) Lines.End) (Some x) (Lines.Then (assign (codes "+=") one) Lines.End) (Line.Plain here (call Writtens.End)) ∷ []
 
--- `x++;` `++x;` `f(f());` `x = f() + 1;` `x += f();` `return -f();` `x = x++;` `x = ++x;` `if (f()) ;` `while (x++) ;` `x = x ? 1 : 1;` `do ; while (x);` `switch (x) { }`
+-- `do ; while (x);` `switch (x) { }` `if (x) do ; while (x);`
 abbrev pub unbuilt : List Line
-unbuilt =
-    Line.Plain here behind ∷ Line.Plain here in_front ∷ Line.Plain here (call (with (call Writtens.End))) ∷ assign (codes "=") (Written.Binary here (codes "+") (call Writtens.End) one) ∷ assign (codes "+=") (call Writtens.End)
-    ∷ Line.Return here (Some (Written.Prefix here (codes "-") (call Writtens.End))) ∷ assign (codes "=") behind ∷ assign (codes "=") in_front
-    ∷ Line.If here (call Writtens.End) (Line.Empty here) Lines.End ∷ Line.While here behind (Line.Empty here) ∷ assign (codes "=") choice
-    ∷ Line.Do here (Line.Empty here) x ∷ Line.Switch here x Clauses.NoPart ∷ []
+unbuilt = Line.Do here (Line.Empty here) x ∷ Line.Switch here x Clauses.NoPart ∷ Line.If here x (Line.Do here (Line.Empty here) x) Lines.End ∷ []

@@ -1,6 +1,6 @@
 // A run over a far side, which is loaded first.
 
-ghost use Rattle.std.specs.Prelude.{◌≡◌, ◌++◌, [], IfOk};
+ghost use Rattle.std.specs.Prelude.{◌≡◌, ◌++◌, [], IfOk, length};
 ghost use Rattle.mdr_core.specs.Sound.{IsSound};
 ghost use Rattle.mdr_exchanges.specs.Calls.{sends};
 ghost use Rattle.mdr_exchanges.specs.Runs.{IsFarFault, IsRun, run_over, sent_of};
@@ -61,6 +61,7 @@ fn began<F: Far>(
     far: &mut F,
 ) -> Result<Left, OutOfMemory>
     requires sound { IsSound program.now }
+    requires fit { length plan.now.halves ≡ length program.now.funcs }
     requires loaded { IsLoaded (F.loaded far.old) }
     requires fresh { F.exchanges far.old ≡ [] }
     ensures began { IfOk result (λ l. IsRun (driver_of program.now plan.now) script.now ticks (F.exchanges far.new) l.outcome) }
@@ -70,7 +71,7 @@ fn began<F: Far>(
     ensures loaded { IfOk result (λ _. F.loaded far.new ≡ F.loaded far.old) }
     ensures failed { IfOk result (λ l. IsFarFault l.outcome.end → Rose (F.faults far.old) (F.faults far.new)) }
 {
-    let mut half = KernelHalf::new(alloc, program, plan)?;
+    let mut half = KernelHalf::new(alloc, program, plan);
     let outcome = half.run(alloc, script, ticks, far)?;
     let layout = half.layout();
     Ok(Left { outcome, layout })
@@ -86,7 +87,8 @@ pub(crate) fn ran<F: Far>(
     ticks: u64,
     far: &mut F,
 ) -> Result<Left, OutOfMemory>
-    requires { IsSound program.now }
+    requires sound { IsSound program.now }
+    requires fit { length cut.now.plan.halves ≡ length program.now.funcs }
     ensures ran { IfOk result (λ l. RanTo program.now cut.now.plan cut.now.texts script.now ticks (F.loaded far.new) (F.exchanges far.new) l.outcome) }
     ensures laid { IfOk result (λ l. l.layout ≡ places_of (world_left program.now cut.now.plan script.now ticks (F.loaded far.new) (F.exchanges far.new)).lives) }
     ensures called { IfOk result (λ _. LoadedOnce cut.now.texts (F.calls far.old) (F.calls far.new) (sent_of (F.exchanges far.new))) }

@@ -3,3 +3,4 @@ mod Stepping
 mod Ends
 mod Taking
 mod Messages
+mod Legal

@@ -66,6 +66,7 @@ pub record StandsFor (watch : Watch) (w : Waiting) : Type 0 where
 pub record IsBetween (watch : Watch) (b : Between) : Type 0 where
   pub same : b.world.program ≡ watch.program.now
   pub passes : b.ledger.passes ≡ names_of watch.program.now
+  pub alone : b.world.world.views ≡ []
 
 -- and in one
 pub record IsActive (watch : Watch) (a : Active) : Type 0 where

@@ -1,15 +1,15 @@
 // A legal reply is applied.
 
-ghost use Rattle.std.specs.Prelude.{◌≡◌, IfOk, None};
+ghost use Rattle.std.specs.Prelude.{◌≡◌, ◌≤◌, None};
 ghost use Rattle.mdr_split.specs.Kernel.{applied};
 ghost use Rattle.mdr_split.specs.Legal.{reply_runs_fault};
 ghost use Rattle.mdr_watch.specs.declared.watch.Watch.{Watch as AnyWatch};
 ghost use Rattle.mdr_watched.specs.Driver.{Driver as AnyDriver};
+ghost use Rattle.mdr_kernel_memory.specs.Holding.{AreStorable};
 ghost use Rattle.mdr_turns.specs.States.{ChangesVisible, IsActive, agreed_with, kernel_in};
 
 use crate::state::{Active, Ledger};
 use mdr_copy::put_runs;
-use mdr_core::OutOfMemory;
 use mdr_kernel_memory::apply;
 use mdr_model::Run;
 
@@ -34,31 +34,23 @@ fn agreed_applied(ledger: Ledger, runs: &[Run]) -> Ledger
 /// It is applied: its ticks are spent, and its runs are stored in the memory and in the agreed copy. Of the memory runs
 /// without a fault change visible cells alone.
 #[tactic(auto, unfolding(mdr_split::specs::Kernel::applied))]
-pub(crate) fn applied<'a>(
-    active: Active<'a>,
-    ticks: u64,
-    runs: &[Run],
-) -> Result<Active<'a>, OutOfMemory>
-    ensures is { IfOk result (λ a. kernel_in a ≡ applied ticks runs.now (kernel_in active.entry)) }
-    ensures contained { IfOk result (λ a. (d : AnyDriver) → reply_runs_fault d (kernel_in active.entry) runs.now ≡ None → ChangesVisible d (kernel_in active.entry) (kernel_in a)) }
-    ensures open { IfOk result (λ a. a.open ≡ active.entry.open) }
-    ensures kept { IfOk result (λ a. (watch : AnyWatch) → IsActive watch active.entry → IsActive watch a) }
+pub(crate) fn applied<'a>(active: Active<'a>, ticks: u64, runs: &[Run]) -> Active<'a>
+    requires within { ticks ≤ active.guarded.world.clock.rest }
+    requires storable { AreStorable active.guarded.world.memory runs.now }
+    ensures is { kernel_in result ≡ applied ticks runs.now (kernel_in active.entry) }
+    ensures contained { (d : AnyDriver) → reply_runs_fault d (kernel_in active.entry) runs.now ≡ None → ChangesVisible d (kernel_in active.entry) (kernel_in result) }
+    ensures open { result.open ≡ active.entry.open }
+    ensures kept { (watch : AnyWatch) → IsActive watch active.entry → IsActive watch result }
 {
     let Active {
         guarded,
         ledger,
         open,
     } = active;
-    match apply(guarded, ticks, runs) {
-        Ok(left) => Ok(Active {
-            guarded: left,
-            ledger: agreed_applied(ledger, runs),
-            open,
-        }),
-        Err(error) => {
-            drop(ledger);
-            drop(open);
-            Err(error)
-        }
+    let left = apply(guarded, ticks, runs);
+    Active {
+        guarded: left,
+        ledger: agreed_applied(ledger, runs),
+        open,
     }
 }

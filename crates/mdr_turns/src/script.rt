@@ -1,6 +1,6 @@
 // The commands of a script, up to the first message.
 
-ghost use Rattle.std.specs.Prelude.{◌≡◌, drop, IfOk};
+ghost use Rattle.std.specs.Prelude.{◌≡◌, [], drop, IfOk};
 ghost use Rattle.mdr_core.specs.Sound.{IsSound};
 ghost use Rattle.mdr_slice.specs.Calls.{names_of};
 ghost use Rattle.mdr_split.specs.Kernel.{beginning, split_commands};
@@ -78,6 +78,7 @@ pub fn begun<'a>(
     requires sound { IsSound watch.program.now }
     requires fit { IsFit watch }
     requires same { world.program ≡ watch.program.now }
+    requires alone { world.world.views ≡ [] }
     ensures kept { IfOk result (KeptFor watch.entry) }
     ensures comes { IfOk result (λ r. ComesTo r script.now (split_commands (driver_in watch.entry) script.now (beginning world.entry.world))) }
 {

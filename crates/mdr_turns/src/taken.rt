@@ -1,11 +1,12 @@
 // What a legal reply does.
 
-ghost use Rattle.std.specs.Prelude.{◌≡◌, List, drop, IfOk};
+ghost use Rattle.std.specs.Prelude.{◌≡◌, List, None, drop, IfOk};
 ghost use Rattle.mdr_core.specs.Sound.{IsSound};
 ghost use Rattle.mdr_model.specs.declared.command.Command.{Command as AnyCommand};
 ghost use Rattle.mdr_plain.specs.World.{World as AnyWorld};
 ghost use Rattle.mdr_slice.specs.Calls.{names_of};
 ghost use Rattle.mdr_split.specs.Kernel.{continued, ended, taken, then_split};
+ghost use Rattle.mdr_split.specs.Legal.{fault_of};
 ghost use Rattle.mdr_split.specs.State.{Kernel as AnyKernel, Noted, Pending as AnyPending};
 ghost use Rattle.mdr_watch.specs.Watching.{IsFit, driver_in};
 ghost use Rattle.mdr_turns.specs.Coming.{CommandedFor, CommandedTo, ComesTo, KeptFor};
@@ -93,6 +94,7 @@ pub(crate) fn taken<'a>(
     requires sound { IsSound watch.program.now }
     requires fit { IsFit watch }
     requires active { IsActive watch active }
+    requires legal { fault_of (driver_in watch) (kernel_in active) (upcall_of active.open) Noted reply ≡ None }
     ensures kept { IfOk result (KeptFor watch.entry) }
     ensures comes { IfOk result (λ p. ComesTo p script.now (taken (driver_in watch.entry) reply (kernel_in active.entry) (upcall_of active.entry.open) Noted (drop active.entry.open.done script.now))) }
 {
@@ -102,7 +104,7 @@ pub(crate) fn taken<'a>(
             result: wire,
             runs,
         } => {
-            let active = applied(active, ticks, runs.as_slice())?;
+            let active = applied(active, ticks, runs.as_slice());
             continued(alloc, watch, script, wire, active)
         }
         Reply::Down {
@@ -113,7 +115,7 @@ pub(crate) fn taken<'a>(
             args,
             runs,
         } => {
-            let active = applied(active, ticks, runs.as_slice())?;
+            let active = applied(active, ticks, runs.as_slice());
             goes_down(alloc, watch, at, depth, func, args.as_slice(), active)
         }
         Reply::Ask {
@@ -125,7 +127,7 @@ pub(crate) fn taken<'a>(
             bytes,
             runs,
         } => {
-            let active = applied(active, ticks, runs.as_slice())?;
+            let active = applied(active, ticks, runs.as_slice());
             asks(
                 alloc,
                 watch,
@@ -143,7 +145,7 @@ pub(crate) fn taken<'a>(
             at,
             runs,
         } => {
-            let active = applied(active, ticks, runs.as_slice())?;
+            let active = applied(active, ticks, runs.as_slice());
             Ok(over_in(End::Stop(stop_of(stop), Some(at)), active))
         }
     }

@@ -45,8 +45,8 @@ fn call_opened<'a>(
     call_told(alloc, watch, func, args, guarded, ledger, begun)
 }
 
-/// An upcall begins: its set is taken, from its arguments and the globals. A call while another function of the user half
-/// is active answers want of memory.
+/// An upcall begins, while no other function of the user half is active: its set is taken, from its arguments and the
+/// globals.
 #[tactic(auto, unfolding(mdr_split::specs::Kernel::calls))]
 pub(crate) fn calls<'a>(
     alloc: Global,
@@ -60,10 +60,6 @@ pub(crate) fn calls<'a>(
     ensures kept { IfOk result (KeptFor watch.entry) }
     ensures comes { IfOk result (λ p. (script : List AnyCommand) (before : AnyWorld) → ComesTo p script (calls (driver_in watch.entry) func (wires_of args.now) between.entry.world.world (kernel_with between.entry.ledger before) (drop begun script))) }
 {
-    if between.world.is_in_user() {
-        drop(between);
-        return Err(OutOfMemory::unmet());
-    }
     match first_set(alloc, Upcall { watch, func }, args, &between.world) {
         Ok(Ok(set)) => {
             let Between { world, ledger } = between;

@@ -1,13 +1,16 @@
 -- What occurs in a program is among the types that its table is made of.
-use Rattle.std.proofs.Common.{ℕ, zero, suc, ◌≡◌, ◌⊎◌, inl, inr, List, [], ◌∷◌, ◌++◌, map, Option, Some, None, slice_get, ap, sym, ◌∙◌, subst}
+use Rattle.std.proofs.Common.{ℕ, zero, suc, ◌≡◌, ◌⊎◌, inl, inr, Bool, true, false, List, [], ◌∷◌, ◌++◌, map, Option, Some, None, slice_get, ap, sym, ◌∙◌, subst}
 use Rattle.mdr_core.specs.declared.program.Func.{Func}
 use Rattle.mdr_core.specs.declared.program.GlobalDef.{GlobalDef}
+use Rattle.mdr_core.specs.declared.program.Local.{Local}
 use Rattle.mdr_core.specs.declared.program.StructDef.{StructDef}
 use Rattle.mdr_core.specs.declared.code.Stmt.{Stmt}
 use Rattle.mdr_core.specs.declared.types.Ty.{Ty}
 use Rattle.mdr_core.specs.Code.{Code, Codes}
 use Rattle.mdr_core.specs.Folds.{codes_of}
-use Rattle.mdr_core.specs.TypeText.{Allocates, AllocatesIn, Occurs, OfField, OfGlobal, OfParam, OfLocal, OfAllocation}
+use Rattle.mdr_core.specs.Layout.{chosen}
+use Rattle.mdr_core.specs.TypeText.{Allocates, AllocatesIn}
+use Rattle.mdr_lower.specs.Tables.{is_counted, Occurs, OfField, OfGlobal, OfParam, OfLocal, OfAllocation}
 use Rattle.mdr_check.specs.declared.variable.Variable.{Variable}
 use Rattle.mdr_check.specs.Tables.{type_table}
 use Rattle.mdr_program.specs.declared.parts.Parts.{Parts}
@@ -29,6 +32,19 @@ among_map : {A : Type 0} (f : A → Ty) (t : Ty) (xs : List A) (i : ℕ) (x : A)
 among_map f t [] i x e is = absurd cc
 among_map f t (y ∷ ys) zero x e is = let same : y ≡ x = cc in inl (ap f same ∙ is)
 among_map f t (y ∷ ys) (suc i) x e is = inr (among_map f t ys i x e is)
+
+-- a local that is counted
+among_locals : (t : Ty) (ls : List Local) (i : ℕ) (l : Local) → slice_get ls i ≡ Some l → is_counted l ≡ true → l.ty ≡ t → IsAmong t (local_types ls)
+among_locals t [] i l e c is = absurd cc
+among_locals t (x ∷ xs) zero l e c is =
+    let same : x ≡ l = cc in
+    let counted : is_counted x ≡ true = ap is_counted same ∙ c in
+    rw counted (inl (ap (λ (y : Local). y.ty) same ∙ is))
+among_locals t (x ∷ xs) (suc i) l e c is = by (is_counted x) (among_locals t xs i l e c is)
+  where
+    by : (b : Bool) → IsAmong t (local_types xs) → IsAmong t (chosen b (x.ty ∷ local_types xs) (local_types xs))
+    by true m = inr m
+    by false m = m
 
 among_structs : (t : Ty) (ds : List StructDef) (s : ℕ) (d : StructDef) → slice_get ds s ≡ Some d → IsAmong t (field_types d.fields) → IsAmong t (struct_types ds)
 unfolding struct_types
@@ -103,9 +119,9 @@ module _ (types : List Ty) (ps : Parts) (t : Ty) where
       (among_first t (global_types ps.variables) (funcs_types ps.funcs) (among_globals types ps.structs ps.variables ps.variables t g def names is))
   of_part (OfParam f i func p names has is) =
       of_func f func names (among_first t (param_types func.params) (local_types func.locals ++ body_types func.body) (among_map (λ p. p.ty) t func.params i p has is))
-  of_part (OfLocal f i func l names has is) =
+  of_part (OfLocal f i func l names has counted is) =
       of_func f func names (among_second t (param_types func.params) (local_types func.locals ++ body_types func.body)
-      (among_first t (local_types func.locals) (body_types func.body) (among_map (λ l. l.ty) t func.locals i l has is)))
+      (among_first t (local_types func.locals) (body_types func.body) (among_locals t func.locals i l has counted is)))
   of_part (OfAllocation f func body names has h) =
       of_func f func names (among_second t (param_types func.params) (local_types func.locals ++ body_types func.body)
       (among_second t (local_types func.locals) (body_types func.body) (body_among t func.body body has h)))

@@ -4,8 +4,8 @@ use Rattle.std.specs.Prelude.{◌≤◌, length, IsTrue}
 use Rattle.mdr_core.specs.declared.program.Program.{Program}
 use Rattle.mdr_core.specs.declared.types.Ty.{Ty}
 use Rattle.mdr_core.specs.Sound.{IsObjectSort}
-use Rattle.mdr_core.specs.TypeText.{Occurs, IsOrderedTable}
 use Rattle.mdr_core.specs.Types.{HasNumber, sort_of, is_pointer}
+use Rattle.mdr_lower.specs.Tables.{Occurs, IsOrderedTable}
 use Rattle.mdr_program.specs.declared.parts.Parts.{Parts}
 use Rattle.mdr_program.specs.Occurring.{occurring}
 use Rattle.mdr_program.specs.Orders.{IsAmong}

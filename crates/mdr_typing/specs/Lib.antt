@@ -1,4 +1,3 @@
 pub mod Becoming
-pub mod Calling
 pub mod Profile
 pub mod Sources

@@ -12,11 +12,10 @@ use Rattle.mdr_faults.specs.Faults.{Checked, Right, refuse, after, both}
 use Rattle.mdr_operand.specs.declared.room.LocalName.{LocalName}
 use Rattle.mdr_operand.specs.Signs.{assignment_operator}
 use Rattle.mdr_operand.specs.Written.{Written}
-use Rattle.mdr_express.specs.Expressions.{typed}
+use Rattle.mdr_express.specs.Expressions.{typed, call_at}
 use Rattle.mdr_call.specs.declared.parts.TypedCall.{TypedCall}
 use Rattle.mdr_assign.specs.Assignments.{step_operator, step_rule}
 use Rattle.mdr_body.specs.Statements.{Rules}
-use Rattle.mdr_typing.specs.Calling.{call_at}
 use Rattle.mdr_typing.specs.Sources.{source_of, source_stored, source_returned, source_assigned, assigning}
 
 -- ---- assignments

@@ -1,29 +1,30 @@
 // Assignments of values and of what calls give, and statements that are expressions (C99 6.5.16, 6.8.3).
 
 ghost use Rattle.std.specs.Prelude.{◌≡◌, IfOk, map};
-ghost use Rattle.mdr_faults.specs.Faults.{Checked, Right, told, after, both};
+ghost use Rattle.mdr_faults.specs.Faults.{Checked, told, after, both};
 ghost use Rattle.mdr_operand.specs.declared.operand.Operand.{Operand};
 ghost use Rattle.mdr_operand.specs.Written.{Written, written_of, written_what, written_list};
 ghost use Rattle.mdr_call.specs.declared.parts.TypedCall.{TypedCall};
+ghost use Rattle.mdr_call.specs.Calls.{call_value};
 ghost use Rattle.mdr_assign.specs.declared.assignment.Assignment.{Assignment};
 ghost use Rattle.mdr_assign.specs.declared.assignment.Destination.{Destination};
-ghost use Rattle.mdr_assign.specs.Assignments.{assignment_rule, destination_at};
 ghost use Rattle.mdr_typing.specs.declared.source.Source.{Source};
 ghost use Rattle.mdr_typing.specs.declared.source.Source.TheVariants as source;
-ghost use Rattle.mdr_typing.specs.Sources.{assigning, source_stored, call_assigned, source_assigned};
+ghost use Rattle.mdr_typing.specs.Sources.{assigning, source_stored, is_plain, value_assigned, call_assigned, source_assigned};
 ghost use Rattle.mdr_typing.specs.Profile.{assigned, calling, stepped, called};
 
-use crate::calls::call_at;
 use crate::source::{Source, right_side, source_stored};
 use mdr_assign::{
     Assignment, Destination, assignment_rule, destination_at, step_operator, step_rule,
     told_instead,
 };
-use mdr_call::TypedCall;
+use mdr_call::{TypedCall, call_value};
 use mdr_core::{Name, OutOfMemory, Place};
-use mdr_express::{both_made, expression};
-use mdr_faults::{Fault, FaultKind, Scope, both, mismatch};
-use mdr_operand::{AssignmentOperator, LocalName, Operand, assignment_operator, both_given_up};
+use mdr_express::{both_made, call_at, expression};
+use mdr_faults::{Fault, Scope, both, mismatch};
+use mdr_operand::{
+    AssignmentOperator, LocalName, Operand, assignment_operator, is_active_operand, out_of_memory,
+};
 use mdr_rich::Step;
 use mdr_syntax::{Form, FormWhat};
 use std::alloc::{AllocError, Global};
@@ -42,6 +43,7 @@ fn assigning(
     }
 }
 
+#[tactic(auto, unfolding(crate::specs::Sources::value_assigned))]
 fn value_assigned(
     alloc: Global,
     scope: &Scope,
@@ -50,7 +52,7 @@ fn value_assigned(
     x: Operand,
     y: Operand,
 ) -> Result<Result<Step, Fault>, AllocError>
-    ensures { IfOk result (λ r. r ≡ told (after (assignment_rule scope.now place op (Right x) (Right y)) assigning)) }
+    ensures { IfOk result (λ r. r ≡ told (value_assigned scope.now place op x y)) }
 {
     assigning(assignment_rule(alloc, scope, place, op, Ok(x), Ok(y)))
 }
@@ -66,51 +68,58 @@ fn call_stored(
     source_stored(alloc, place, d.object, &d.ty, Source::Call(call))
 }
 
-#[tactic(auto, unfolding(crate::specs::Sources::call_assigned))]
-fn call_assigned(
-    alloc: Global,
-    place: Place,
-    op: Option<AssignmentOperator>,
-    call: TypedCall,
-    d: Destination,
-) -> Result<Result<Step, Fault>, AllocError>
-    ensures { IfOk result (λ r. r ≡ told (call_assigned place op call d)) }
-{
-    match op {
-        Some(AssignmentOperator::Plain) => call_stored(alloc, place, call, d),
-        Some(AssignmentOperator::Compound(_)) => {
-            Ok(both_given_up(place, FaultKind::Mismatch, call, d))
-        }
-        None => Ok(both_given_up(place, FaultKind::Mismatch, call, d)),
-    }
-}
-
 fn call_given(
     alloc: Global,
     place: Place,
-    op: Option<AssignmentOperator>,
     call: TypedCall,
     d: Result<Destination, Fault>,
 ) -> Result<Result<Step, Fault>, AllocError>
-    ensures { (c : Checked Destination) → d ≡ told c → IfOk result (λ r. r ≡ told (after c (call_assigned place op call))) }
+    ensures { (c : Checked Destination) → d ≡ told c → IfOk result (λ r. r ≡ told (after c (λ d. source_stored place d.object d.ty (source.Call call)))) }
 {
     match d {
-        Ok(d) => call_assigned(alloc, place, op, call, d),
+        Ok(d) => call_stored(alloc, place, call, d),
         Err(fault) => Ok(told_instead(fault, call)),
     }
 }
 
-fn call_at_left(
+#[tactic(auto, unfolding(crate::specs::Sources::call_assigned))]
+fn call_assigned(
     alloc: Global,
+    place: Place,
+    x: Operand,
+    call: TypedCall,
+) -> Result<Result<Step, Fault>, AllocError>
+    ensures { IfOk result (λ r. r ≡ told (call_assigned place x call)) }
+{
+    let d = destination_at(place, x);
+    call_given(alloc, place, call, d)
+}
+
+fn is_plain(op: Option<AssignmentOperator>) -> bool
+    ensures { result ≡ is_plain op }
+{
+    match op {
+        Some(AssignmentOperator::Plain) => true,
+        Some(AssignmentOperator::Compound(_)) | None => false,
+    }
+}
+
+/// A call as a part of an assignment.
+fn part_assigned(
+    alloc: Global,
+    scope: &Scope,
     place: Place,
     op: Option<AssignmentOperator>,
     x: Operand,
     call: TypedCall,
 ) -> Result<Result<Step, Fault>, AllocError>
-    ensures { IfOk result (λ r. r ≡ told (after (destination_at place x) (call_assigned place op call))) }
+    ensures { IfOk result (λ r. r ≡ told (after (call_value place call) (value_assigned scope.now place op x))) }
 {
-    let d = destination_at(place, x);
-    call_given(alloc, place, op, call, d)
+    match call_value(alloc, place, call) {
+        Ok(Ok(y)) => value_assigned(alloc, scope, place, op, x, y),
+        Ok(Err(fault)) => Ok(told_instead(fault, x)),
+        Err(error) => out_of_memory(error, x),
+    }
 }
 
 #[tactic(auto, unfolding(crate::specs::Sources::source_assigned))]
@@ -126,7 +135,13 @@ fn source_assigned(
 {
     match source {
         Source::Value(y) => value_assigned(alloc, scope, place, op, x, y),
-        Source::Call(call) => call_at_left(alloc, place, op, x, call),
+        Source::Call(call) => {
+            if is_plain(op) && !is_active_operand(&x) {
+                call_assigned(alloc, place, x, call)
+            } else {
+                part_assigned(alloc, scope, place, op, x, call)
+            }
+        }
     }
 }
 

@@ -4,13 +4,11 @@
 
 mod assigning;
 mod becoming;
-mod calls;
 mod laws;
 mod profile;
 mod source;
 
 pub use becoming::becomes;
-pub use calls::call_at;
 pub use laws::becoming_is_exact;
 pub use profile::ProfileRules;
 pub use source::Source;

@@ -3,22 +3,23 @@
 ghost use Rattle.std.specs.Prelude.{◌≡◌, IfOk, map};
 ghost use Rattle.mdr_rich.specs.declared.code.CallForm.{CallForm};
 ghost use Rattle.mdr_rich.specs.declared.code.Expr.{Expr};
-ghost use Rattle.mdr_faults.specs.Faults.{Checked, told, after};
+ghost use Rattle.mdr_core.specs.declared.types.Ty.{out-Ty};
+ghost use Rattle.mdr_faults.specs.Faults.{Checked, Right, told, after};
 ghost use Rattle.mdr_operand.specs.declared.operand.Operand.{Operand};
 ghost use Rattle.mdr_operand.specs.Written.{Written, written_of, written_what, written_list};
 ghost use Rattle.mdr_express.specs.Expressions.{typed};
 ghost use Rattle.mdr_call.specs.declared.parts.TypedCall.{TypedCall};
 ghost use Rattle.mdr_typing.specs.declared.source.Source.{Source};
-ghost use Rattle.mdr_typing.specs.Sources.{value_source, call_source, source_of, call_as, value_to, call_to, source_stored, value_back, call_back, source_returned};
+ghost use Rattle.mdr_typing.specs.declared.source.Source.TheVariants as source;
+ghost use Rattle.mdr_typing.specs.Sources.{value_source, call_source, is_pointer_value, is_pointer_of, pointer_source, cast_source, source_of, call_as, value_to, call_to, source_stored, value_back, call_back, source_returned};
 
 use crate::becoming::becomes;
-use crate::calls::call_at;
 use mdr_assign::told_instead;
 use mdr_call::TypedCall;
 use mdr_core::{OutOfMemory, Place, Ty};
-use mdr_express::expression;
-use mdr_faults::{Fault, FaultKind, Scope, is_void};
-use mdr_operand::{LocalName, Operand, converted_at, given_up, out_of_memory};
+use mdr_express::{call_at, expression, left_over};
+use mdr_faults::{Fault, FaultKind, Scope, is_alike, is_void};
+use mdr_operand::{LocalName, Operand, Scalar, converted_at, given_up, out_of_memory};
 use mdr_rich::{CallForm, Expr, Lval, Step};
 use mdr_syntax::{Form, FormWhat};
 use std::alloc::{AllocError, Global};
@@ -78,7 +79,117 @@ fn call_alone<A: Drop>(
     Ok(called_source(place, call))
 }
 
+fn is_pointer_value(x: &Operand) -> bool
+    ensures { result ≡ is_pointer_value x.now }
+{
+    match x {
+        Operand::Value(Scalar::Pointer(_, _)) => true,
+        Operand::Value(Scalar::Opaque(_)) => true,
+        _ => false,
+    }
+}
+
+fn is_pointer_of(ty: &Ty, x: &Operand) -> bool
+    ensures { result ≡ is_pointer_of (out-Ty ty.now) x.now }
+{
+    match (ty, x) {
+        (Ty::Ptr(t), Operand::Value(Scalar::Pointer(_, u))) => is_alike(t.get(), u),
+        (Ty::VoidPtr, Operand::Value(Scalar::Opaque(_))) => true,
+        _ => false,
+    }
+}
+
+fn call_instead<A: Drop>(call: TypedCall, _x: A) -> Source
+    ensures { result ≡ source.Call call }
+{
+    Source::Call(call)
+}
+
+fn value_instead<A: Drop>(x: Operand, _inner: A) -> Source
+    ensures { result ≡ source.Value x }
+{
+    Source::Value(x)
+}
+
+fn own_call(call: TypedCall, x: Operand) -> Source
+    ensures { Right result ≡ pointer_source (Right (source.Call call)) x }
+{
+    if is_pointer_of(&call.result, &x) {
+        call_instead(call, x)
+    } else {
+        value_instead(x, call)
+    }
+}
+
+fn own_source(inner: Source, x: Operand) -> Source
+    ensures { Right result ≡ pointer_source (Right inner) x }
+{
+    match inner {
+        Source::Call(call) => own_call(call, x),
+        Source::Value(y) => value_instead(x, y),
+    }
+}
+
+/// What stands behind a cast, and what the cast gives.
+fn pointer_source(inner: Result<Source, Fault>, x: Operand) -> Result<Source, Fault>
+    ensures { (c : Checked Source) → inner ≡ told c → result ≡ told (pointer_source c x) }
+{
+    match inner {
+        Ok(inner) => Ok(own_source(inner, x)),
+        Err(fault) => Ok(value_instead(x, fault)),
+    }
+}
+
+fn pointer_made(
+    inner: Result<Result<Source, Fault>, OutOfMemory>,
+    x: Operand,
+) -> Result<Result<Source, Fault>, OutOfMemory>
+    ensures { (c : Checked Source) → IfOk inner (λ r. r ≡ told c) → IfOk result (λ r. r ≡ told (pointer_source c x)) }
+{
+    match inner {
+        Ok(inner) => Ok(pointer_source(inner, x)),
+        Err(error) => left_over(error, x),
+    }
+}
+
+/// A cast of this form, of which x is what it gives. What stands in it is looked at where that is a pointer.
+#[cycle(source)]
+#[tactic(auto, unfolding(crate::specs::Sources::cast_source))]
+fn cast_source(
+    alloc: Global,
+    scope: &Scope,
+    locals: &[LocalName],
+    a: &Form,
+    x: Operand,
+) -> Result<Result<Source, Fault>, OutOfMemory>
+    ensures { IfOk result (λ r. r ≡ told (cast_source (source_of scope.now locals.now (written_of a.now)) x)) }
+{
+    if is_pointer_value(&x) {
+        let inner = right_side(alloc, scope, locals, a);
+        pointer_made(inner, x)
+    } else {
+        Ok(Ok(Source::Value(x)))
+    }
+}
+
+#[cycle(source)]
+fn cast_alone(
+    alloc: Global,
+    scope: &Scope,
+    locals: &[LocalName],
+    a: &Form,
+    x: Result<Operand, Fault>,
+) -> Result<Result<Source, Fault>, OutOfMemory>
+    ensures { (c : Checked Operand) → x ≡ told c → IfOk result (λ r. r ≡ told (after c (cast_source (source_of scope.now locals.now (written_of a.now))))) }
+{
+    match x {
+        Ok(x) => cast_source(alloc, scope, locals, a, x),
+        Err(fault) => Ok(Err(fault)),
+    }
+}
+
 /// A right side, of which x is what it comes to as an expression.
+#[cycle(source)]
 fn source_at(
     alloc: Global,
     scope: &Scope,
@@ -98,7 +209,7 @@ fn source_at(
         FormWhat::Number(_, _) => Ok(value_source(x)),
         FormWhat::Null => Ok(value_source(x)),
         FormWhat::Post(_, _) => Ok(value_source(x)),
-        FormWhat::Cast(_, _, _) => Ok(value_source(x)),
+        FormWhat::Cast(_, _, a) => cast_alone(alloc, scope, locals, a.get(), x),
         FormWhat::Binary(_, _, _) => Ok(value_source(x)),
         FormWhat::Choice(_, _, _) => Ok(value_source(x)),
         FormWhat::Subscript(_, _) => Ok(value_source(x)),
@@ -109,6 +220,7 @@ fn source_at(
 }
 
 /// What a right side comes to, in a scope and among the locals so far.
+#[cycle(source)]
 pub fn right_side(
     alloc: Global,
     scope: &Scope,

@@ -9,20 +9,23 @@ use Rattle.mdr_extents.specs.CellOrder.{cells}
 use Rattle.mdr_events.specs.declared.integer.Integer.{Integer}
 use Rattle.mdr_events.specs.Integers.{FirstBecomes, FirstIs, IsFirst, integer_wire}
 use Rattle.mdr_events.specs.Outcomes.{when_made}
+use Rattle.mdr_meaning.specs.declared.shape.Shape64.{Shape64}
 use Rattle.mdr_meaning.specs.declared.wire.Wire.{Wire}
 use Rattle.mdr_meaning.specs.declared.wire.Wire.TheVariants as wire
 use Rattle.mdr_meaning.specs.declared.wire.WireView.{WireView}
+use Rattle.mdr_meaning.specs.Walk.{Born}
 use Rattle.mdr_model.specs.declared.memory.Cell.{Cell}
+use Rattle.mdr_model.specs.declared.message.BirthKind.TheVariants.{Auto}
 use Rattle.mdr_model.specs.Memory.{Memory, cell_of, everywhere, is_live, loaded, loaded_from, reached, reached_by, stored, stored_into}
 use Rattle.mdr_model.specs.Sets.{cells_from}
 use Rattle.mdr_paths.specs.Paths.{is_in}
 use Rattle.mdr_paths.proofs.NodeLists.{none_in}
 use Rattle.mdr_plain.specs.Gate.{are_none}
-use Rattle.mdr_plain.specs.Storage.{bytes_from, cells_read, deaths, read, remembers, with_memory}
+use Rattle.mdr_plain.specs.Storage.{births, bytes_from, cells_read, deaths, read, remembers, with_memory}
 use Rattle.mdr_plain.specs.World.{World}
-use Rattle.mdr_viewed.specs.Viewed.{in_set, viewed, viewed_if}
+use Rattle.mdr_viewed.specs.Viewed.{in_set, viewed, viewed_born, viewed_if}
 use Rattle.mdr_viewed.specs.Laws.{AgreeOn}
-use Rattle.mdr_viewed.proofs.Steps.{IsBeside, accesses_are_viewed, beside_kept, deaths_viewed}
+use Rattle.mdr_viewed.proofs.Steps.{IsBeside, accesses_are_viewed, beside_kept, births_are_viewed, births_viewed, deaths_viewed}
 use Rattle.mdr_watched.proofs.KeepLaws.{deaths_keep}
 use Rattle.mdr_viewed.proofs.Sets.{sets_are_viewed}
 use Rattle.mdr_watched.specs.Order.{AreLive}
@@ -189,6 +192,23 @@ module _ (program : Program) (set : List Cell) (w : World) (serial : ℕ) (n : I
   put_guarded true d' g put kept =
       store_guarded program set w (stored everywhere w.memory (wire.Ptr (at_first serial)) (integer_wire n)) (Ok tt) d' g (put refl (at_first serial) (record { block = refl; first = refl; index = refl; some = omega arith })) tt
   put_guarded false d' g put kept = subst (λ (d : Driven). IsGuarded set d.world) (sym (kept refl)) g
+
+-- births leave it too
+module _ (program : Program) (set : List Cell) (w : World) (shapes : List Shape64) (g : IsGuarded set w) where
+  birth_goes : births program Auto shapes (viewed set w) ≡ viewed_born set (births program Auto shapes w)
+  birth_goes = births_viewed program Auto shapes set w g.older
+
+  pub birth_points : (driven_accesses.birth (driver program w) shapes).pointers ≡ (guarded_accesses.birth (driver program (viewed set w)) shapes).pointers
+  birth_points = sym (ap (λ (b : Born World). b.pointers) birth_goes)
+
+  pub birth_leaves : (d' : Driven) → d' ≡ (driven_accesses.birth (driver program w) shapes).memory → driver d'.program (viewed set d'.world) ≡ (guarded_accesses.birth (driver program (viewed set w)) shapes).memory
+  birth_leaves d' e = ap (λ (d : Driven). driver d.program (viewed set d.world)) e ∙ sym (ap (λ (b : Born World). driver program b.memory) birth_goes)
+
+  pub birth_guarded : (d' : Driven) → d' ≡ (driven_accesses.birth (driver program w) shapes).memory → IsGuarded set d'.world
+  birth_guarded d' e = subst (λ (d : Driven). IsGuarded set d.world) (sym e) (record {
+    upcall = births_are_viewed.upcall_born program Auto shapes w g.upcall;
+    older = births_are_viewed.older_born program Auto shapes set w g.older;
+  })
 
 pub death_guarded : (set : List Cell) (w : World) (ps : List Wire) → IsGuarded set w → IsGuarded set (deaths ps w)
 death_guarded set w ps g = let b = deaths_keep (IsBeside set) (beside_kept set) ps w (record { upcall = g.upcall; older = g.older }) in record { upcall = b.upcall; older = b.older }

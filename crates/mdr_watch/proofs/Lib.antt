@@ -4,3 +4,4 @@ mod Turns
 mod Passing
 mod Calls
 mod Runs
+pub mod Alone

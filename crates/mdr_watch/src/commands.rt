@@ -1,6 +1,6 @@
 // The commands of a script.
 
-ghost use Rattle.std.specs.Prelude.{◌≡◌, IfOk, true};
+ghost use Rattle.std.specs.Prelude.{◌≡◌, [], IfOk, true};
 ghost use Rattle.mdr_core.specs.Sound.{IsSound};
 ghost use Rattle.mdr_model.specs.declared.command.Command.TheVariants as command;
 ghost use Rattle.mdr_plain.specs.Running.{interrupts};
@@ -53,7 +53,9 @@ fn come_back<'a>(alloc: Global, watch: Watch, closed: Closed<'a>) -> Result<Did<
     requires sound { IsSound watch.program.now }
     requires fit { IsFit watch }
     requires same { closed.world.program ≡ watch.program.now }
+    requires alone { closed.world.world.views ≡ [] }
     ensures kept { IfOk result (λ r. r.world.program ≡ watch.entry.program.now) }
+    ensures alone { IfOk result (λ r. r.world.world.views ≡ []) }
     ensures worked { IfOk result (λ r. worked_as r.worked r.world.world ≡ returned (interrupts (kernel_of (driver_in watch.entry))) (gave_as closed.entry.gave closed.entry.world.world)) }
 {
     let Closed { gave, world } = closed;
@@ -78,8 +80,10 @@ fn upcall_command<'a>(
     requires sound { IsSound watch.program.now }
     requires fit { IsFit watch }
     requires same { world.program ≡ watch.program.now }
+    requires alone { world.world.views ≡ [] }
     requires user { is_user_in watch.plan.now func ≡ true }
     ensures kept { IfOk result (λ r. r.world.program ≡ watch.entry.program.now) }
+    ensures alone { IfOk result (λ r. r.world.world.views ≡ []) }
     ensures worked { IfOk result (λ r. WorkedFor r.worked r.world.world (does_with (driver_in watch.entry) (held (driver_in watch.entry)) may_not (command.Call func args.now) world.entry.world)) }
 {
     let noted = noted(alloc, world, func, args)?;
@@ -98,8 +102,10 @@ fn kernel_command<'a>(
     requires sound { IsSound watch.program.now }
     requires fit { IsFit watch }
     requires same { world.program ≡ watch.program.now }
+    requires alone { world.world.views ≡ [] }
     requires kernel { IsKernel watch.plan.now command.now }
     ensures kept { IfOk result (λ r. r.world.program ≡ watch.entry.program.now) }
+    ensures alone { IfOk result (λ r. r.world.world.views ≡ []) }
     ensures worked { IfOk result (λ r. WorkedFor r.worked r.world.world (does_with (driver_in watch.entry) (held (driver_in watch.entry)) may_not command.now world.entry.world)) }
 {
     let mut world = world;
@@ -122,7 +128,9 @@ fn do_watched<'a>(
     requires sound { IsSound watch.program.now }
     requires fit { IsFit watch }
     requires same { world.program ≡ watch.program.now }
+    requires alone { world.world.views ≡ [] }
     ensures kept { IfOk result (λ r. r.world.program ≡ watch.entry.program.now) }
+    ensures alone { IfOk result (λ r. r.world.world.views ≡ []) }
     ensures worked { IfOk result (λ r. WorkedFor r.worked r.world.world (does_with (driver_in watch.entry) (held (driver_in watch.entry)) may_not command.now world.entry.world)) }
 {
     match command {
@@ -150,6 +158,7 @@ pub(crate) fn do_commands<'a>(
     requires sound { IsSound watch.program.now }
     requires fit { IsFit watch }
     requires same { world.program ≡ watch.program.now }
+    requires alone { world.world.views ≡ [] }
     ensures kept { IfOk result (λ r. r.world.program ≡ watch.entry.program.now) }
     ensures finished { IfOk result (λ r. EndsFor r.worked r.world.world (commands (does_with (driver_in watch.entry) (held (driver_in watch.entry)) may_not) script.now world.entry.world)) }
 {

@@ -1,13 +1,14 @@
 // The state of a run while a function of the user half is active.
 
-ghost use Rattle.std.specs.Prelude.{◌≡◌, []};
+ghost use Rattle.std.specs.Prelude.{◌≡◌, [], IfOk, OnOk};
+ghost use Rattle.mdr_events.specs.Values.{wires_of};
 ghost use Rattle.mdr_meaning.specs.Values.{wire_of};
 ghost use Rattle.mdr_model.specs.Memory.{normal};
 ghost use Rattle.mdr_viewed.specs.Viewed.{IsOlder, viewed};
 ghost use Rattle.mdr_watched.specs.Order.{AreLive};
 ghost use Rattle.mdr_watched.specs.Views.{closed, living, opened, top};
 ghost use Rattle.mdr_world.specs.Driven.{Ticks, driver};
-ghost use Rattle.mdr_watch.specs.Guarding.{IsGuarded};
+ghost use Rattle.mdr_watch.specs.Guarding.{IsGuarded, guarded_accesses};
 
 use crate::kept_out::{are_kept_out, is_kept_out};
 use mdr_cells::CellSet;
@@ -56,6 +57,22 @@ pub(crate) fn forget(alloc: Global, world: &mut World, set: &mut CellSet)
 {
     *set = CellSet::new(alloc);
     world.enter_user();
+}
+
+/// Objects are born in a world beside a set, whose cells stay.
+fn birth_beside(
+    alloc: Global,
+    world: &mut World,
+    set: &CellSet,
+    shapes: &[Shape64],
+) -> Result<Items<Value>, AllocError>
+    requires { IsGuarded set.now world.old.world }
+    ensures pointers { IfOk result (λ ps. wires_of ps ≡ (guarded_accesses.birth (driver world.old.program (viewed set.now world.old.world)) shapes.now).pointers) }
+    ensures memory { OnOk result (driver world.new.program (viewed set.now world.new.world) ≡ (guarded_accesses.birth (driver world.old.program (viewed set.now world.old.world)) shapes.now).memory) }
+    ensures guarded { OnOk result (IsGuarded set.now world.new.world) }
+{
+    let pointers = world.birth(alloc, shapes)?;
+    Ok(pointers)
 }
 
 impl<'a> Guarded<'a> {
@@ -107,7 +124,8 @@ impl<'a> Guarded<'a> {
 
     /// It is over.
     pub fn close(self) -> World<'a>
-        ensures { result ≡ driver self.entry.program (closed self.entry.world) }
+        ensures is { result ≡ driver self.entry.program (closed self.entry.world) }
+        ensures alone { result.world.views ≡ [] }
     {
         let Guarded { world, set: _set } = self;
         let mut world = world;
@@ -179,9 +197,14 @@ impl<'a> Memory for Guarded<'a> {
         self.world.read(alloc, pointer, count)
     }
 
-    /// User code asks for births by a service. So here none is made, and the answer is want of memory.
-    fn birth(&mut self, _alloc: Global, _shapes: &[Shape64]) -> Result<Items<Value>, AllocError> {
-        Err(AllocError)
+    fn birth(&mut self, alloc: Global, shapes: &[Shape64]) -> Result<Items<Value>, AllocError> {
+        match birth_beside(alloc, &mut self.world, &self.set, shapes) {
+            Ok(pointers) => Ok(pointers),
+            Err(error) => {
+                forget(alloc, &mut self.world, &mut self.set);
+                Err(error)
+            }
+        }
     }
 
     fn death(&mut self, pointers: &[Value]) {

@@ -23,5 +23,5 @@ pub use downcalls::downcall;
 pub use guarded::{Guarded, Parts};
 pub use roots::entry_roots;
 pub use upcall::first_set;
-pub use watch::{Upcall, Watch, is_fit, is_user, kernel_code, touched};
+pub use watch::{Upcall, Watch, is_user, kernel_code, touched};
 pub use whole::run_watched;

@@ -69,6 +69,7 @@ fn run_out<'a>(
     requires same { guarded.program ≡ upcall.watch.program.now }
     requires ready { IsReady (held_of upcall.watch.program.now machine) }
     ensures kept { IfOk result (λ r. r.world.program ≡ upcall.entry.watch.program.now) }
+    ensures alone { IfOk result (λ r. r.world.world.views ≡ []) }
     ensures gave { IfOk result (λ r. GaveFor r.gave r.world.world (closing (user_does upcall.entry guarded.entry.world.clock.rest machine guarded.entry.world))) }
 {
     let mut machine = machine;
@@ -103,6 +104,7 @@ fn enter<'a>(
     requires live { AreLive world.world.memory set }
     requires older { IsOlder set world.world }
     ensures kept { IfOk result (λ r. r.world.program ≡ upcall.entry.watch.program.now) }
+    ensures alone { IfOk result (λ r. r.world.world.views ≡ []) }
     ensures gave { IfOk result (λ r. GaveFor r.gave r.world.world (entered_in upcall.entry (wires_of args.now) set world.entry.world)) }
 {
     let guarded = Guarded::new(world, set);
@@ -136,8 +138,8 @@ pub fn first_set(
     Ok(taken)
 }
 
-/// It is called: its set is taken, from its arguments and the globals. A function without a body answers want of memory,
-/// and so does a call while another one of the user half is active.
+/// It is called, while no other one of the user half is active: its set is taken, from its arguments and the globals. A
+/// function without a body answers want of memory.
 #[tactic(auto, unfolding(mdr_watched::specs::Watched::upcall))]
 pub(crate) fn call_user<'a>(
     alloc: Global,
@@ -149,13 +151,11 @@ pub(crate) fn call_user<'a>(
     requires fit { IsFit upcall.watch }
     requires user { is_user upcall.watch.plan.now upcall.func ≡ true }
     requires same { world.program ≡ upcall.watch.program.now }
+    requires alone { world.world.views ≡ [] }
     ensures kept { IfOk result (λ r. r.world.program ≡ upcall.entry.watch.program.now) }
+    ensures alone { IfOk result (λ r. r.world.world.views ≡ []) }
     ensures gave { IfOk result (λ r. GaveFor r.gave r.world.world (up (driver_in upcall.entry.watch) (held (driver_in upcall.entry.watch)) may_not upcall.entry.func (wires_of args.now) 0 world.entry.world)) }
 {
-    if world.is_in_user() {
-        drop(world);
-        return Err(OutOfMemory::unmet());
-    }
     match first_set(alloc, upcall, args, &world) {
         Ok(Ok(set)) => enter(alloc, upcall, args, set, world),
         Ok(Err(_)) => {

@@ -1,6 +1,6 @@
 // What is watched.
 
-ghost use Rattle.std.specs.Prelude.{◌≡◌, ◌==◌, [], length, option_copied, slice_get};
+ghost use Rattle.std.specs.Prelude.{◌≡◌, [], option_copied, slice_get};
 ghost use Rattle.mdr_watched.specs.Driver.{is_user, is_user_half, touched_by};
 ghost use Rattle.mdr_watched.specs.Watched.{kernel_of};
 ghost use Rattle.mdr_whole.specs.Going.{driver_code};
@@ -22,13 +22,6 @@ pub struct Watch<'a> {
 pub struct Upcall<'a> {
     pub watch: Watch<'a>,
     pub func: u32,
-}
-
-/// Whether each function has a half.
-pub fn is_fit(watch: Watch) -> bool
-    ensures { result ≡ (length watch.entry.plan.now.halves == length watch.entry.program.now.funcs) }
-{
-    watch.plan.halves.len() == watch.program.funcs.len()
 }
 
 /// The code of the kernel half.

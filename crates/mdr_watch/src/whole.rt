@@ -1,6 +1,6 @@
 // The run of a script on one memory, while user code is held to its annotations.
 
-ghost use Rattle.std.specs.Prelude.{◌≡◌, IfOk};
+ghost use Rattle.std.specs.Prelude.{◌≡◌, IfOk, length};
 ghost use Rattle.mdr_core.specs.Sound.{IsSound};
 ghost use Rattle.mdr_plain.specs.Outcome.{outcome_of};
 ghost use Rattle.mdr_plain.specs.Scripts.{finish};
@@ -8,7 +8,7 @@ ghost use Rattle.mdr_whole.specs.Ending.{end_of};
 ghost use Rattle.mdr_watch.specs.Watching.{watched_apart};
 
 use crate::commands::{Did, do_commands};
-use crate::watch::{Watch, is_fit};
+use crate::watch::Watch;
 use mdr_bound::Bound;
 use mdr_core::{OutOfMemory, Plan, Program};
 use mdr_model::End;
@@ -39,8 +39,7 @@ fn shown_of(alloc: Global, did: Did) -> Result<Outcome, OutOfMemory>
 }
 
 /// Runs a script for a driver on one memory, with so many ticks, while its user half is held to what the plan lets it touch,
-/// and gives what the run shows. Code of the kernel half may call nothing back. A plan that hasn't a half for each function answers
-/// want of memory.
+/// and gives what the run shows. Code of the kernel half may call nothing back.
 #[tactic(auto, unfolding(crate::specs::Watching::watched_apart))]
 pub fn run_watched(
     alloc: Global,
@@ -49,13 +48,11 @@ pub fn run_watched(
     script: &Bound,
     ticks: u64,
 ) -> Result<Outcome, OutOfMemory>
-    requires { IsSound program.now }
+    requires sound { IsSound program.now }
+    requires fit { length plan.now.halves ≡ length program.now.funcs }
     ensures { IfOk result (λ o. o ≡ outcome_of program.now (watched_apart program.now plan.now script.now ticks)) }
 {
     let watch = Watch { program, plan };
-    if !is_fit(watch) {
-        return Err(OutOfMemory::unmet());
-    }
     let world = World::new(alloc, program, script, ticks)?;
     let did = do_commands(alloc, watch, world, script.commands.as_slice())?;
     let shown = shown_of(alloc, did)?;

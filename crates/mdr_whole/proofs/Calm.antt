@@ -1,5 +1,5 @@
 -- Many ticks at once, where nothing is done before them: code runs through, and then the ticks are counted.
-use Rattle.std.proofs.Common.{◌≡◌, ℕ, zero, suc, ◌+◌, ◌-◌, ◌≤◌, Bool, List, [], ◌∷◌, Some, Result, Ok, Err, refl, sym, ◌∙◌, ap, arith, subst}
+use Rattle.std.proofs.Common.{◌≡◌, ℕ, zero, suc, ◌+◌, ◌-◌, ◌≤◌, Bool, List, [], ◌∷◌, Some, Result, Ok, Err, refl, sym, ◌∙◌, ap, arith, le_refl, subst}
 use Rattle.mdr_core.specs.declared.place.At.{At}
 use Rattle.mdr_core.specs.declared.program.Program.{Program}
 use Rattle.mdr_core.specs.declared.stop.StopKind.{StopKind}
@@ -299,6 +299,16 @@ module _ {M : Type 0} (a : Accesses M) (world_in : M → World) (program_in : M 
     pub record Through (fuel : ℕ) (all : Ran Wire) (h' : Held) (m' : M) (e : Event) (n rest : ℕ) : Type 0 where
       pub stands : Stands p half side before fuel all h' e (at_clock (advanced (n - rest) (world_in m').clock) (world_in m'))
       pub same : program_in m' ≡ p
+
+    -- no access looks at the clock, so that running code leaves it as it is
+    pub clock_stays : (h h' : Held) (m' : M) (e : Event) (n rest : ℕ) → RanTo a side h m n e h' m' rest → (world_in m').clock ≡ (world_in m).clock
+    clock_stays h h' m' e n rest ran =
+        let came_so : Came h m n e h' m' rest = came h m n e h' m' rest ran in
+        let is : Comes n n (tree side n h n) m e h' m' rest (rest + (n - n)) = all_fuel h m n e h' m' rest n (le_refl n) came_so.ran in
+        let memory : (walk a n (tree side n h n) m).memory ≡ m' = memory_is n n (tree side n h n) m e h' m' rest (rest + (n - n)) came_so.wants came_so.spent is in
+        let walks : walk (accesses p all_cells) n (tree side n h n) (world_in m) ≡ walked (walk a n (tree side n h n) m).reached (world_in (walk a n (tree side n h n) m).memory) (walk a n (tree side n h n) m).left =
+        seen.walks n (tree side n h n) m in
+        sym (ap (λ x. (world_in x).clock) memory) ∙ sym (ap (λ (x : Walked World). x.memory.clock) walks) ∙ walk_clock p n (tree side n h n) (world_in m)
 
     pub runs_through : (h h' : Held) (m' : M) (e : Event) (place : At) (n rest fuel : ℕ) (all : Ran Wire) → IsCalm before (world_in m).kept (world_in m).clock → n ≤ (world_in m).clock.rest
         → Stands p half side before fuel all h (event.TicksOut place) (world_in m) → RanTo a side h m n e h' m' rest → Through fuel all h' m' e n rest

@@ -34,7 +34,7 @@ use Rattle.mdr_model.specs.Memory.{normal}
 use Rattle.mdr_plain.specs.Laws.{GivesNoTicks}
 use Rattle.mdr_plain.specs.Running.{Before, all_cells, call, handled, interrupts, run}
 use Rattle.mdr_plain.specs.Services.{served}
-use Rattle.mdr_plain.specs.World.{World, Ran, Ended, Stopped, advanced, after, left}
+use Rattle.mdr_plain.specs.World.{World, Clock, Ran, Ended, Stopped, advanced, after, left}
 use Rattle.mdr_runs.specs.Around.{KeepsTicks}
 use Rattle.mdr_runs.specs.Following.{Stands, answered, code_by, crossing_by, goes_on, runs, setting_by, tried_by}
 use Rattle.mdr_runs.specs.Laws.{Went}
@@ -57,7 +57,7 @@ use Rattle.mdr_whole.specs.declared.next.Next.{Next}
 use Rattle.mdr_whole.specs.declared.next.Next.TheVariants as next
 use Rattle.mdr_whole.specs.Ending.{gave_as, worked_as}
 use Rattle.mdr_whole.specs.Going.{Began, Counted, Follows, GoesOn, GoesOnWith, IsCalm, IsStarted, NextAt, Passed, RanThrough, StandsAt, machine_does}
-use Rattle.mdr_whole.proofs.Calm.{at_clock, runs_through}
+use Rattle.mdr_whole.proofs.Calm.{at_clock, clock_stays, runs_through}
 
 -- ---- a driver that runs is seen as its world
 
@@ -116,6 +116,17 @@ ran_through program half side m m' d d1 d2 e ticks used same ready all_ticks les
       same = ap program_in counts ∙ t.same ∙ same;
       left = ran_leaves driven_accesses side (held_of program m) (held_of program m') d d1 ticks e (ticks - used) ready ran;
     }
+
+-- and no more ticks than the budget left
+pub none_beyond : (program : Program) (half : Bool) (side : Side) (m m' : Machine) (d d1 : Driven) (e : Event) (ticks used : ℕ) → ticks ≡ d.world.clock.rest → used ≤ ticks
+    → RanTo driven_accesses side (held_of program m) d ticks e (held_of program m') d1 (ticks - used) → used ≤ d1.world.clock.rest
+none_beyond program half side m m' d d1 e ticks used all_ticks less ran =
+    let stays : d1.world.clock ≡ d.world.clock =
+    clock_stays driven_accesses world_in program_in seen half side (tried_by false program half side) (tries_give_none false program half side) d (held_of program m) (held_of program m') d1 e ticks (ticks - used) ran in
+    let same : d1.world.clock.rest ≡ d.world.clock.rest = ap (λ (c : Clock). c.rest) stays in
+    let all : ticks ≡ d.world.clock.rest = all_ticks in
+    let few : used ≤ ticks = less in
+    omega (arith, same, all, few)
 
 -- ---- a tick
 

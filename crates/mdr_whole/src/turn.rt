@@ -107,7 +107,7 @@ fn run_through(
 {
     let ticks = world.rest();
     let event = go(machine, alloc, code, world, ticks)?;
-    world.count(machine.used())?;
+    world.count(machine.used());
     Ok(event)
 }
 

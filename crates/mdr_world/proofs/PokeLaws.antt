@@ -1,6 +1,6 @@
--- An integer that is put where one is held.
+-- A value that is put into a block by its serial, and an integer that is put where one is held.
 use Rattle.std.proofs.Common.{◌≡◌, ℕ, ℤ, zero, suc, Bool, true, false, cond, List, [], ◌∷◌, map, Option, Some, None, refl, sym, ◌∙◌, ap, subst}
-use Rattle.std.specs.Prelude.{◌==◌, option_map, slice_get}
+use Rattle.std.specs.Prelude.{◌==◌, option_map, slice_get, slice_set}
 use Rattle.mdr_core.specs.declared.value.Block.{Block}
 use Rattle.mdr_core.specs.declared.value.Value.{Value}
 use Rattle.mdr_core.specs.declared.value.Value.TheVariants as value
@@ -61,3 +61,20 @@ none_poked s c n e = ap (λ (v : Option Wire). with_memory (put_if (poked_value 
 -- a block's cell by its serial
 pub poked_by_serial : (s t : Contents) (serial other index : ℕ) (n : ℤ) → other ≡ serial → t ≡ with_memory (poked_memory (record { serial = other; index = index }) n s.memory) s → t ≡ with_memory (poked_memory (record { serial = serial; index = index }) n s.memory) s
 poked_by_serial s t serial other index n same = subst (λ (k : ℕ). t ≡ with_memory (poked_memory (record { serial = k; index = index }) n s.memory) s) same
+
+-- ---- any value
+
+put_nowhere : (m : Memory) (c : Cell) (v : Wire) → born_at m c.serial ≡ None → put m c v ≡ m
+unfolding born_at put
+put_nowhere [] c v e = refl
+put_nowhere (b ∷ m) c v e = of (b.born.serial == c.serial) e (put_nowhere m c v)
+  where
+    of : (t : Bool) → cond t (Some b.born) (born_at m c.serial) ≡ None → (born_at m c.serial ≡ None → put m c v ≡ m) → cond t (record b { cells = slice_set b.cells c.index v } ∷ m) (b ∷ put m c v) ≡ b ∷ m
+    of true k later = absurd cc
+    of false k later = ap (λ (x : Memory). b ∷ x) (later k)
+
+pub none_put : (s : Contents) (c : Cell) (v : Wire) → born_at s.memory c.serial ≡ None → s ≡ with_memory (put s.memory c v) s
+none_put s c v e = ap (λ (m : Memory). with_memory m s) (sym (put_nowhere s.memory c v e))
+
+pub put_by_serial : (s t : Contents) (serial other index : ℕ) (v : Wire) → other ≡ serial → t ≡ with_memory (put s.memory (record { serial = other; index = index }) v) s → t ≡ with_memory (put s.memory (record { serial = serial; index = index }) v) s
+put_by_serial s t serial other index v same = subst (λ (k : ℕ). t ≡ with_memory (put s.memory (record { serial = k; index = index }) v) s) same

@@ -107,6 +107,17 @@ pub fn store(blocks: &mut RegionBlocks, pointer: Value, v: Value) -> Result<(), 
     }
 }
 
+/// Puts a value into a cell of the block with this serial. Where there is no such cell nothing is done.
+pub fn put_at(blocks: &mut RegionBlocks, serial: u64, index: u64, v: Value)
+    ensures { blocks.new ≡ with_memory (put blocks.old.memory (record { serial = serial; index = index }) (normal blocks.old.memory (wire_of v))) blocks.old }
+{
+    let _in_order = blocks.births();
+    match blocks.find(serial) {
+        Some(block) => put_now(blocks, Target { block, index }, v),
+        None => (),
+    }
+}
+
 // ---- the first cell of a block
 
 /// The handle of the live block with this serial, where its slot has the same number.

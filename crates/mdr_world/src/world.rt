@@ -1,6 +1,6 @@
 // The state of a run.
 
-ghost use Rattle.std.specs.Prelude.{◌≡◌, ◌+◌, ◌==◌, [], ℕ, false, true, IfOk, IsTrue, OnOk, OnErr, length};
+ghost use Rattle.std.specs.Prelude.{◌≡◌, ◌+◌, ◌≤◌, ◌==◌, [], ℕ, false, true, IfOk, IsTrue, OnOk, OnErr, length};
 ghost use Rattle.std.specs.List.{list_any};
 ghost use Rattle.mdr_core.specs.Sound.{IsSound};
 ghost use Rattle.mdr_device.specs.Machines.{Machine, read, written};
@@ -11,7 +11,7 @@ ghost use Rattle.mdr_meaning.specs.Bodies.{known_of};
 ghost use Rattle.mdr_meaning.specs.Values.{wire_of};
 ghost use Rattle.mdr_mem.specs.Contents.{births_in};
 ghost use Rattle.mdr_model.specs.Agreement.{IsBelow, SerialsRise};
-ghost use Rattle.mdr_model.specs.Memory.{born_at, is_live, normal};
+ghost use Rattle.mdr_model.specs.Memory.{born_at, is_live, normal, put};
 ghost use Rattle.mdr_plain.specs.Atomic.{is_atomic};
 ghost use Rattle.mdr_plain.specs.Gate.{due, is_open};
 ghost use Rattle.mdr_plain.specs.Locks.{acquire, is_locked, release};
@@ -189,18 +189,14 @@ impl<'a> World<'a> {
         true
     }
 
-    /// So many ticks. Where fewer are left that answers want of memory.
-    pub fn count(&mut self, ticks: u64) -> Result<(), OutOfMemory>
-        ensures counted { OnOk result (self.new ≡ driver self.old.program (record self.old.world { clock = advanced ticks self.old.world.clock })) }
-        ensures as_before { OnErr result (self.new ≡ self.old) }
+    /// So many ticks, where as many are left.
+    pub fn count(&mut self, ticks: u64)
+        requires { ticks ≤ self.old.world.clock.rest }
+        ensures { self.new ≡ driver self.old.program (record self.old.world { clock = advanced ticks self.old.world.clock }) }
     {
-        if ticks > self.rest {
-            return Err(OutOfMemory::unmet());
-        }
         self.rest -= ticks;
         self.ticks += ticks;
         self.device.advance(ticks);
-        Ok(())
     }
 
     // ---- interrupts
@@ -497,6 +493,13 @@ impl<'a> World<'a> {
         ensures { self.new ≡ driver self.old.program (poked serial index n self.old.world) }
     {
         access::poke(&mut self.storage.blocks, serial, index, n);
+    }
+
+    /// Puts a value into a cell of the block with a serial. Where there is no such cell nothing is done.
+    pub fn put_at(&mut self, serial: u64, index: u64, value: Value)
+        ensures { self.new ≡ driver self.old.program (record self.old.world { memory = put self.old.world.memory (record { serial = serial; index = index }) (normal self.old.world.memory (wire_of value)) }) }
+    {
+        access::put_at(&mut self.storage.blocks, serial, index, value);
     }
 
     /// Puts an integer into the first cell of a block, where that is done at once.

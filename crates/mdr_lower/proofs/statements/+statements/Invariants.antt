@@ -1,6 +1,6 @@
-use Rattle.std.proofs.Common.{◌≡◌, ◌++◌, drop, map}
-use Rattle.mdr_lower.specs.Lowering.{lowered_stmt}
+use Rattle.std.proofs.Common.{◌≡◌, drop, map}
+use Rattle.mdr_lower.specs.Lowering.{run, stmt_lowered}
 use Rattle.mdr_lower.proofs.statements.+statements.Given as goal
 
-abbrev pub invariant-lowered_list-loop-s : goal.invariant-lowered_list-loop-s
-invariant-lowered_list-loop-s l = l.all ++ map lowered_stmt (drop l.s-index l.statements) ≡ map lowered_stmt l.statements
+abbrev pub invariant-put_list-loop-s : goal.invariant-put_list-loop-s
+invariant-put_list-loop-s l = run l.work (map stmt_lowered (drop l.s-index l.statements)) ≡ run l.initial.work (map stmt_lowered l.statements)

@@ -1,8 +1,11 @@
-use Rattle.std.proofs.Common.{ap, sym, ◌∙◌}
+use Rattle.std.proofs.Common.{ap, length, sym, ◌∙◌}
 use Rattle.std.proofs.lemmas.Result.{IfOk-weaker}
 use Rattle.mdr_plain.specs.Outcome.{outcome_of}
 use Rattle.mdr_runner.specs.Runs.IsOutcome.{watched_run}
 use Rattle.mdr_runner.proofs.outcomes.outcome_in.Goals as goal
+
+pub run_watched-requires-clause-fit : goal.run_watched-requires-clause-fit
+run_watched-requires-clause-fit c = ap length c.in_ok-plan.ensures.is_plan.halves_are ∙ c.in_ok-plan.ensures.are_halves.halves_size
 
 pub returns-in_ok-plan : goal.returns-in_ok-plan
 returns-in_ok-plan c =

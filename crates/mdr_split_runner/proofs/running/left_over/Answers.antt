@@ -1,3 +1,4 @@
+use Rattle.std.proofs.Common.{ap, length, ◌∙◌}
 use Rattle.mdr_split_runner.specs.SplitRuns.IsSplitPart.{loaded}
 use Rattle.mdr_split_runner.proofs.Steps.{with_three}
 use Rattle.mdr_split_runner.proofs.running.left_over.Goals as goal
@@ -9,3 +10,6 @@ returns-clause-done g c =
 
 pub returns-clause-part : goal.returns-clause-part
 returns-clause-part g c = loaded c.in-Ok.cut.plan c.in-Ok.cut.texts c.in-Ok.ensures c.ran-left.ensures.part
+
+pub ran-left-requires-clause-fit : goal.ran-left-requires-clause-fit
+ran-left-requires-clause-fit g c = ap length c.in-Ok.ensures.plan_is.is_plan.halves_are ∙ c.in-Ok.ensures.plan_is.are_halves.halves_size

@@ -8,7 +8,7 @@ use Rattle.mdr_world.specs.Driven.{Driven}
 use Rattle.mdr_turns.specs.States.{kernel_in}
 use Rattle.mdr_turns.proofs.applied.applied.Goals as goal
 
-pub returns-in-Ok-clause-contained : goal.returns-in-Ok-clause-contained
-returns-in-Ok-clause-contained c = λ d e.
-    subst (λ (m : Memory). IsContained d.program c.args.active.guarded.world.memory m (top c.args.active.guarded.world.views)) (sym (ap (λ (g : Driven). g.world.memory) c.in-Ok.ensures))
+pub returns-clause-contained : goal.returns-clause-contained
+returns-clause-contained c = λ d e.
+    subst (λ (m : Memory). IsContained d.program c.args.active.guarded.world.memory m (top c.args.active.guarded.world.views)) (sym (ap (λ (g : Driven). g.world.memory) c.apply-left.ensures))
     (faultless_contained d (kernel_in c.args.active) c.args.runs.now e)

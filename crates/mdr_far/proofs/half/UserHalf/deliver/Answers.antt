@@ -1,12 +1,17 @@
-use Rattle.std.proofs.Common.{ℕ, List, ◌++◌, sym, ap, ◌∙◌}
+use Rattle.std.proofs.Common.{ℕ, List, ◌++◌, refl, subst, sym, ap, ◌∙◌}
+use Rattle.std.specs.Prelude.{option_map}
 use Rattle.mdr_exchanges.specs.Runs.{sent_of}
 use Rattle.mdr_model.specs.Bytes.{readings}
 use Rattle.mdr_over_bytes.specs.OverBytes.{IsHonestReply, user_reply_to_bytes}
+use Rattle.mdr_track.specs.Tracked.{pairs_of}
 use Rattle.mdr_user_code.specs.declared.state.State.{State}
-use Rattle.mdr_user_code.specs.Standing.{Follows}
+use Rattle.mdr_user_code.specs.Standing.{Follows, user_memory}
+use Rattle.mdr_user_memory.specs.Kept.{Kept}
+use Rattle.mdr_user_memory.specs.Paired.{Paired}
 use Rattle.mdr_watched.specs.Driver.{driver_of}
 use Rattle.mdr_far.specs.Halves.{HalfState, driver_in}
-use Rattle.mdr_far.proofs.HalfSteps.{at_some, then_some, at_ok, on_ok, follows_next, honest_more, replies_on}
+use Rattle.mdr_far.specs.Memories.{GoesWith}
+use Rattle.mdr_far.proofs.HalfSteps.{at_some, then_some, at_ok, on_ok, follows_next, honest_more, memory_paired, replies_on}
 use Rattle.mdr_far.proofs.half.UserHalf.deliver.Goals as goal
 
 pub invariant_of-self-in-Ok : goal.invariant_of-self-in-Ok
@@ -43,3 +48,16 @@ reply_to-reply-requires-clause-opens c =
     let es = c.self.inside.exchanges in
     let follows = at_some (λ (s : State). Follows d (readings (sent_of es)) s) c.self.inside.state c.in-Some.state (sym c.take.ensures.value ∙ c.in-Some.is) c.self.invariant.follows in
     follows.opens
+
+pub returns-in-Ok-clause-paired : goal.returns-in-Ok-clause-paired
+returns-in-Ok-clause-paired c =
+    let d = driver_of c.self.inside.program c.self.inside.plan in
+    let es = c.self.inside.exchanges in
+    let es' = c.recorded.new.exchanges in
+    let s' = c.reply_to-reply.new.state in
+    let follows = at_some (λ (s : State). Follows d (readings (sent_of es)) s) c.self.inside.state c.in-Some.state (sym c.take.ensures.value ∙ c.in-Some.is) c.self.invariant.follows in
+    let follows' =
+    follows_next d es es' s' c.args.bytes.now c.in-Ok.reply.items c.in-Ok.ensures.ok.1
+    (on_ok c.reply_to-reply.result c.in-Ok.reply c.in-Ok.ensures.ok.0 _ c.reply_to-reply.ensures.follows (sent_of es) follows) in
+    let own = subst (λ (k : Kept). Paired k.agreed k.region.contents (pairs_of k.pairs)) c.memory.ensures c.is_paired.ensures.paired in
+    subst (λ o. GoesWith (user_memory d (readings (sent_of es'))) (option_map (λ (s : State). s.memory) o)) (sym c.put.ensures) (memory_paired d es' s' s'.memory follows' refl own)

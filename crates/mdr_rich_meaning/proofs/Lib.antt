@@ -1,0 +1,10 @@
+pub mod Slots
+pub mod Preparing
+pub mod Bounds
+pub mod Forms
+pub mod Quiet
+pub mod Named
+pub mod Flows
+pub mod Lines
+pub mod Keeps
+pub mod WorkedProofs
