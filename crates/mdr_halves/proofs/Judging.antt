@@ -83,7 +83,10 @@ abbrev pub IsRightOf : Tree → Result Program Refusal → Type 0
 IsRightOf tree (Ok program) = IsRight tree program
 IsRightOf tree (Err e) = Unit {0}
 
+judged_right : (tree : Tree) (o : Result Program Refusal) → Judged (typed_tree tree) o → IsRightOf tree o
+judged_right tree _ (Judged.fault f i) = tt
+judged_right tree _ (Judged.back q is back) = tt
+judged_right tree _ (Judged.right q is back few) = record { judged = is; no_back = back }
+
 pub meaning_right : (tree : Tree) (o : Result Program Refusal) → Means tree o → IsRightOf tree o
-meaning_right tree _ (Judged.fault f i) = tt
-meaning_right tree _ (Judged.back q is back) = tt
-meaning_right tree _ (Judged.right q is back few) = record { judged = is; no_back = back }
+meaning_right tree o j = judged_right tree o j

@@ -19,7 +19,7 @@ use Rattle.mdr_faults.proofs.Least.{first_is_in, first_is_least}
 use Rattle.mdr_source.specs.declared.refusal.Refusal.{Refusal}
 use Rattle.mdr_source.specs.declared.outcome.Source.{Source}
 use Rattle.mdr_source.specs.Backs.{functions_call_back}
-use Rattle.mdr_source.specs.Sources.{Judged, Reading, Comes, IsTooLarge, typed_tree}
+use Rattle.mdr_source.specs.Sources.{Judged, Means, Reading, Comes, IsTooLarge, typed_tree}
 use Rattle.mdr_source.proofs.Lexed.{IsTold, tokens_told}
 
 -- ---- a tree
@@ -71,16 +71,27 @@ judgement (Right program) = by_test (functions_call_back program.funcs) refl
     by_test true e = Judgement.come _ (Judged.back program refl e)
     by_test false e = right_judged program e (few_or_not program)
 
+data Meaning (tree : Tree) : Type 0 where
+  come : (r : Result Program Refusal) → Means tree r → Meaning tree
+  large : Large (typed_tree tree) → Meaning tree
+
+judged_meaning : (tree : Tree) → Judgement (typed_tree tree) → Meaning tree
+judged_meaning tree (Judgement.come r j) = Meaning.come r j
+judged_meaning tree (Judgement.large l) = Meaning.large l
+
+meaning : (tree : Tree) → Meaning tree
+meaning tree = judged_meaning tree (judgement (typed_tree tree))
+
 -- ---- tokens
 
 data Outcome (bytes : List ℕ) : Type 0 where
   come : (r : Result Source Refusal) → Comes bytes r → Outcome bytes
   large : IsTooLarge bytes → Outcome bytes
 
-tree_outcome : (bytes : List ℕ) (ts : List Token) (tree : Tree) → tokens_of bytes ≡ Ok ts → Reads false ts tree → Judgement (typed_tree tree) → Outcome bytes
-tree_outcome bytes ts tree e r (Judgement.come (Ok program) m) = Outcome.come _ (Comes.tokens ts e (Reading.right tree program r m))
-tree_outcome bytes ts tree e r (Judgement.come (Err x) m) = Outcome.come _ (Comes.tokens ts e (Reading.refused tree x r m))
-tree_outcome bytes ts tree e r (Judgement.large l) = Outcome.large (record { tokens = ts; are_tokens = e; tree = tree; reads = r; program = l.program; judged = l.is; no_back = l.no_back; many = l.many })
+tree_outcome : (bytes : List ℕ) (ts : List Token) (tree : Tree) → tokens_of bytes ≡ Ok ts → Reads false ts tree → Meaning tree → Outcome bytes
+tree_outcome bytes ts tree e r (Meaning.come (Ok program) m) = Outcome.come _ (Comes.tokens ts e (Reading.right tree program r m))
+tree_outcome bytes ts tree e r (Meaning.come (Err x) m) = Outcome.come _ (Comes.tokens ts e (Reading.refused tree x r m))
+tree_outcome bytes ts tree e r (Meaning.large l) = Outcome.large (record { tokens = ts; are_tokens = e; tree = tree; reads = r; program = l.program; judged = l.is; no_back = l.no_back; many = l.many })
 
 fault_outcome : (bytes : List ℕ) (ts : List Token) (n : ℕ) → tokens_of bytes ≡ Ok ts → FirstFault false ts n → Outcome bytes
 fault_outcome bytes ts n e f = by_token (slice_get ts n) refl
@@ -94,7 +105,7 @@ fault_outcome bytes ts n e f = by_token (slice_get ts n) refl
     by_token (Some t) d = by_word t (is_left_out t.what) d refl
 
 told_outcome : (bytes : List ℕ) (ts : List Token) (o : Result Tree ℕ) → tokens_of bytes ≡ Ok ts → Tells false ts o → Outcome bytes
-told_outcome bytes ts (Ok tree) e t = tree_outcome bytes ts tree e t.0 (judgement (typed_tree tree))
+told_outcome bytes ts (Ok tree) e t = tree_outcome bytes ts tree e t.0 (meaning tree)
 told_outcome bytes ts (Err left) e t = fault_outcome bytes ts t.0 e t.2
 
 -- ---- bytes

@@ -34,7 +34,7 @@ refused_as (parse.NotInProfile p word) = Some (refusal.NotInProfile p word)
 refused_as (parse.Expected p) = Some (refusal.Expected p)
 refused_as parse.OutOfMemory = None
 
--- a tree whose types are judged. Functions that call back aren't built. The program of one that is right has few types, globals, structs and functions: a larger one finds no memory
+-- the types of a tree, judged. The program of one that is right has few types, globals, structs and functions: a larger one finds no memory
 pub data Judged (c : Checked Program) : Result Program Refusal → Type 0 where
   fault : (f : Fault) → IsFirst f c → Judged c (Err (refusal.Fault f))
   back : (program : Program) → c ≡ Right program → functions_call_back program.funcs ≡ true → Judged c (Err refusal.Unbuilt)

@@ -10,9 +10,7 @@ mod refusal;
 mod whole;
 
 pub use backs::functions_call_back;
-pub use laws::{
-    bytes_come_to_one_thing, bytes_come_to_something, bytes_come_to_their_source,
-};
+pub use laws::{bytes_come_to_one_thing, bytes_come_to_something, bytes_come_to_their_source};
 pub use lines::refusal_line;
 pub use outcome::Source;
 pub use put::{put_bytes, put_newline, put_number, put_word};

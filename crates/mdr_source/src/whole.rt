@@ -57,7 +57,7 @@ fn judged(found: Result<Program, Fault>) -> Result<Result<Program, Refusal>, Out
     }
 }
 
-fn means(alloc: Global, tree: &Tree) -> Result<Result<Program, Refusal>, OutOfMemory>
+fn typed(alloc: Global, tree: &Tree) -> Result<Result<Program, Refusal>, OutOfMemory>
     ensures { IfOk result (Means tree.now) }
 {
     let found = check(
@@ -93,7 +93,7 @@ fn refused_as(error: ParseError) -> Result<Refusal, OutOfMemory>
 fn of_tree(alloc: Global, tree: Tree) -> Result<Result<Source, Refusal>, OutOfMemory>
     ensures { (ts : List OneToken) → Reads false ts tree → IfOk result (Reading ts) }
 {
-    match means(alloc, &tree) {
+    match typed(alloc, &tree) {
         Ok(Ok(program)) => Ok(Ok(Source { tree, program })),
         Ok(Err(refusal)) => Ok(refused(refusal, tree)),
         Err(error) => left_over(error, tree),
