@@ -1,6 +1,6 @@
 // The labels of a `switch` (C99 6.8.1, 6.8.4.2).
 
-ghost use Rattle.std.specs.Prelude.{◌≡◌, ◌++◌, IfOk, OnOk};
+ghost use Rattle.std.specs.Prelude.{◌≡◌, ◌++◌, [], IfOk, OnOk};
 ghost use Rattle.mdr_faults.specs.Faults.{told};
 ghost use Rattle.mdr_body.specs.Labels.{case_constant, label_by, is_same_label, is_among, label_made, with_label, labels_made, labels_behind, has_default, with_case, cases};
 
