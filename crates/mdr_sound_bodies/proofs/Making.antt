@@ -153,14 +153,14 @@ module _ (program : Program) (rules : Rules) (scope : Scope) (h : Head) (nodes :
   bodied : IsBodied rules scope (frame_of scope h) (first_here scope (lines_of nodes) h.params) (map (parameter_taken (lines_of nodes)) h.params) (lines_of nodes) body
   bodied = rule_right rules scope h nodes body made.body_is
 
-  abbrev Slots : List Slot
+  abbrev pub Slots : List Slot
   Slots = map slot_of_param (marked body.objects 0 g.params) ++ map slot_of_local body.locals
 
-  statements_typed : AreTyped program Slots g.result false (codes_of body.statements)
+  pub statements_typed : AreTyped program Slots g.result false (codes_of body.statements)
   statements_typed = subst (λ os. AreTyped program (map slot_of_param (marked os 0 g.params) ++ map slot_of_local body.locals) g.result false (codes_of body.statements)) bodied.marks
       (made_typed program rules scope h nodes known made.front made.tags g (map (candidate made.front) h.params) body.locals body.statements (heading_right made.front h g made.heading_is) sound made.named made.proper bodied.locals bodied.statements)
 
-  slots_many : length Slots ≡ length g.params + length body.locals
+  pub slots_many : length Slots ≡ length g.params + length body.locals
   slots_many =
       let front = mapped_many slot_of_param (marked body.objects 0 g.params) ∙ marked_many body.objects 0 g.params in
       let behind = mapped_many slot_of_local body.locals in
