@@ -1,6 +1,7 @@
 -- believed
 -- The clauses of a `switch`, whose statements are known (C99 6.8.4.2).
-use Rattle.std.specs.Prelude.{Bool, true, false, List, [], ◌∷◌, ◌++◌}
+use Rattle.std.specs.Prelude.{◌||◌, Bool, true, false, List, [], ◌∷◌, ◌++◌}
+use Rattle.mdr_rich.specs.declared.code.Clause.{Clause}
 use Rattle.mdr_rich.specs.declared.code.Stmt.{Stmt}
 use Rattle.mdr_core.specs.declared.kind.Kind.{Kind}
 use Rattle.mdr_core.specs.declared.kind.Kind.TheVariants.{S32}
@@ -60,18 +61,24 @@ last_leaves before Lines.End = before
 last_leaves before (Lines.Then l ls) = last_leaves (leaves l) ls
 
 -- no clause goes on into the one behind it
-abbrev pub ends : Lines → (behind : Clauses) → Bool
-ends ls Clauses.NoPart = true
-ends ls (Clauses.Part labels ms cs) = last_leaves false ls
+abbrev pub ends : Lines → (is_last : Bool) → Bool
+ends ls is_last = is_last || last_leaves false ls
+
+abbrev pub is_last : (behind : Clauses) → Bool
+is_last Clauses.NoPart = true
+is_last (Clauses.Part labels ls cs) = false
 
 -- ---- their code
 
-abbrev pub clause_of : Kind → List CaseLabel → List Stmt → Checked (List MadeClause)
-clause_of k ls ss = Right (record { is_default = has_default ls; clause = record { labels = cases k ls; body = ss } } ∷ [])
+abbrev pub made_clause : Kind → List CaseLabel → List Stmt → Checked (List MadeClause)
+made_clause k ls ss = Right (record { is_default = has_default ls; labels = cases k ls; body = ss } ∷ [])
+
+abbrev pub tried_clause : MadeClause → Clause
+tried_clause c = record { labels = c.labels; body = c.body }
 
 -- the clause with `default` is apart from those whose labels are tried
 abbrev pub with_clause : SortedClauses → MadeClause → SortedClauses
-with_clause s c = chosen c.is_default (record { tried = s.tried; fallback = c.clause.body }) (record { tried = s.tried ++ c.clause ∷ []; fallback = s.fallback })
+with_clause s c = chosen c.is_default (record { tried = s.tried; fallback = c.body }) (record { tried = s.tried ++ tried_clause c ∷ []; fallback = s.fallback })
 
 unfoldable pub sorted : SortedClauses → List MadeClause → SortedClauses
 sorted s [] = s

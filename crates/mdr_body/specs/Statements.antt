@@ -38,7 +38,7 @@ use Rattle.mdr_body.specs.declared.labels.CaseLabel.{CaseLabel}
 use Rattle.mdr_body.specs.Locals.{local_object, is_own_object, with_local, is_taken, entered, left, numbered}
 use Rattle.mdr_body.specs.Addresses.{perhaps_takes, takes_at, takes_along}
 use Rattle.mdr_body.specs.Labels.{labels_made, labels_behind}
-use Rattle.mdr_body.specs.Clauses.{switch_value, label_kind, clause_place, ends, clause_of, sorted, no_clauses}
+use Rattle.mdr_body.specs.Clauses.{switch_value, label_kind, clause_place, ends, is_last, made_clause, sorted, no_clauses}
 
 -- ---- what statements are made of
 
@@ -350,5 +350,5 @@ abbrev mutual
   clauses_made rules scope frame jumps here at seen (Clauses.Part labels ls cs) =
       both
       (both (labels_made scope here.names at.kind seen labels)
-      (demand (clause_place at.place labels) Mismatch (ends ls cs) (lines_made rules scope frame jumps (entered here) ls)) (clause_of at.kind))
+      (demand (clause_place at.place labels) Mismatch (ends ls (is_last cs)) (lines_made rules scope frame jumps (entered here) ls)) (made_clause at.kind))
       (clauses_made rules scope frame jumps (left here (lines_behind scope frame (entered here) ls)) at (labels_behind scope here.names at.kind seen labels) cs) appended
