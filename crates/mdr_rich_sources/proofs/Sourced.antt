@@ -1,14 +1,12 @@
 -- The program of each source means what was written: the parts of the law together.
-use Rattle.std.proofs.Common.{◌≡◌, not, List, [], ap, sym, ◌∙◌, subst, arith}
+use Rattle.std.proofs.Common.{◌≡◌, ℕ, false, not, List, ap, sym, ◌∙◌, subst, arith}
 use Rattle.mdr_core.specs.declared.program.Program.{Program}
-use Rattle.mdr_check.specs.Files.{first_known, pieces_behind}
-use Rattle.mdr_check.specs.Uses.{UseRule}
 use Rattle.mdr_check.specs.Whole.{file_pieces}
 use Rattle.mdr_body.specs.Bodies.{body_rule}
+use Rattle.mdr_body.specs.Uses.{first_use}
 use Rattle.mdr_faults.specs.Faults.{Right, after}
 use Rattle.mdr_meaning.specs.Bodies.{started}
 use Rattle.mdr_meaning.specs.Bodies as plain
-use Rattle.mdr_program.specs.Parts.{parts_behind, no_parts}
 use Rattle.mdr_program.specs.Programs.{program_of, program_right, typed}
 use Rattle.mdr_typing.specs.Profile.{profile_rules}
 use Rattle.mdr_rich_meaning.specs.Bodies.{rich_started}
@@ -16,17 +14,19 @@ use Rattle.mdr_rich_meaning.specs.Expressions.{RichSide}
 use Rattle.mdr_rich_meaning.specs.Law.{IsLowered}
 use Rattle.mdr_rich_meaning.proofs.Keeps.{lowering_keeps_trees}
 use Rattle.mdr_meaning.specs.Sides.{Side}
-use Rattle.mdr_rich_sources.specs.Bodies.{bodies_of}
-use Rattle.mdr_rich_sources.specs.Laws.{IsLoweredFrom, IsWrittenIn, RunsMeanWhatIsWritten, SourcesAreLowered}
+use Rattle.mdr_rich_sources.specs.Bodies.{bodies_of, right_or_none, tree_bodies}
+use Rattle.mdr_rich_sources.specs.Laws.{IsLoweredFrom, IsWrittenIn, RunsMeanWhatIsWritten, SourcesAreLowered, SourcesMeanWhatIsWritten}
 use Rattle.mdr_rich_sources.proofs.Filing.{file_matches}
 use Rattle.mdr_rich_sources.proofs.Matching.{all_lowered}
 use Rattle.mdr_rich_sources.proofs.Running.{runs_same}
-use Rattle.mdr_sound.specs.Whole.{IsMadeOf}
+use Rattle.mdr_sound_code.proofs.Rights.{after_right, same_right}
 use Rattle.mdr_sound.proofs.Filed.{IsFile, file_made, pieces_right}
 use Rattle.mdr_sound.proofs.Itemising.{bytes_proper}
 use Rattle.mdr_sound.proofs.Sourced.{bodies_of as bodies_proper, has_all, ranges_of}
 use Rattle.mdr_sound.proofs.Stating.{profile_sound}
-use Rattle.mdr_watched.specs.Driver.{driver_of, is_user}
+use Rattle.mdr_source.specs.declared.outcome.Source.{Source}
+use Rattle.mdr_source.specs.Sources.{IsSource}
+use Rattle.mdr_watched.specs.Driver.{is_user}
 
 pub sources_lowered : SourcesAreLowered
 sources_lowered bytes halves uses program bs is numbers =
@@ -51,3 +51,23 @@ runs_written bytes halves uses program bs is numbers plan script budget =
     runs_same program plan bs script budget
     (starts_same program _ _ (from.kernel (λ f. not (is_user plan f))))
     (starts_same program _ _ (from.user (λ f. not (is_user plan f))))
+
+-- ---- by the bodies of a tree
+
+tree_written : (bytes : List ℕ) (source : Source) → IsSource bytes source → IsWrittenIn bytes false first_use source.program (tree_bodies source.tree)
+unfolding tree_bodies
+tree_written bytes source is =
+    let a = after_right (file_pieces (body_rule profile_rules) first_use source.tree.items) program_right source.program is.judged in
+    record {
+      tokens = is.tokens;
+      tree = source.tree;
+      lexed = is.are_tokens;
+      read = is.reads;
+      pieces = a.value;
+      found = a.right;
+      program_is = sym (same_right (program_of a.value) source.program a.made);
+      bodies_are = ap (λ c. bodies_of (right_or_none c)) a.right;
+    }
+
+pub sources_written : SourcesMeanWhatIsWritten
+sources_written bytes source is plan script budget = runs_written bytes false first_use source.program (tree_bodies source.tree) (tree_written bytes source is) is.numbers plan script budget

@@ -8,6 +8,12 @@ use Rattle.mdr_headings.specs.declared.body.Body.{Body}
 use Rattle.mdr_headings.specs.declared.head.Heading.{Heading}
 use Rattle.mdr_check.specs.declared.file.Piece.{Piece}
 use Rattle.mdr_check.specs.declared.file.Piece.TheVariants as piece
+use Rattle.mdr_check.specs.Whole.{file_pieces}
+use Rattle.mdr_body.specs.Bodies.{body_rule}
+use Rattle.mdr_body.specs.Uses.{first_use}
+use Rattle.mdr_faults.specs.Faults.{Checked, Right, Wrong}
+use Rattle.mdr_syntax.specs.declared.tree.Tree.{Tree}
+use Rattle.mdr_typing.specs.Profile.{profile_rules}
 use Rattle.mdr_program.specs.declared.parts.Parts.{Parts}
 use Rattle.mdr_program.specs.Parts.{behind_piece, marked, no_parts, number_among}
 use Rattle.mdr_meaning.specs.Bodies.{known_of}
@@ -48,6 +54,15 @@ bodies_behind ps bs (x ∷ xs) = bodies_behind (behind_piece ps x) (with_piece p
 -- those of a file
 abbrev pub bodies_of : List Piece → Bodies
 bodies_of xs = bodies_behind no_parts [] xs
+
+-- the pieces of what is right
+abbrev pub right_or_none : Checked (List Piece) → List Piece
+right_or_none (Right xs) = xs
+right_or_none (Wrong f) = []
+
+-- those of a source, by its tree
+unfoldable pub tree_bodies : Tree → Bodies
+tree_bodies tree = bodies_of (right_or_none (file_pieces (body_rule profile_rules) first_use tree.items))
 
 abbrev pub perhaps : Option (Option RichBody) → Option RichBody
 perhaps None = None

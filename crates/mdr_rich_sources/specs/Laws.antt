@@ -18,8 +18,10 @@ use Rattle.mdr_meaning.specs.Bodies as plain
 use Rattle.mdr_program.specs.Programs.{program_of}
 use Rattle.mdr_typing.specs.Profile.{profile_rules}
 use Rattle.mdr_rich_meaning.specs.Law.{IsLowered}
-use Rattle.mdr_rich_sources.specs.Bodies.{Bodies, bodies_of, kernel_side, user_side, whole_side}
+use Rattle.mdr_rich_sources.specs.Bodies.{Bodies, bodies_of, kernel_side, tree_bodies, user_side, whole_side}
 use Rattle.mdr_rich_sources.specs.Runs.{written_run}
+use Rattle.mdr_source.specs.declared.outcome.Source.{Source}
+use Rattle.mdr_source.specs.Sources.{IsSource}
 use Rattle.mdr_watched.specs.Watched.{watched}
 
 -- the source's tree comes to the program, and these are the bodies of its functions
@@ -42,8 +44,14 @@ pub record IsLoweredFrom (program : Program) (bs : Bodies) : Type 0 where
 abbrev pub SourcesAreLowered : Type 0
 SourcesAreLowered = (bytes : List ℕ) (halves : Bool) (uses : UseRule) (program : Program) (bs : Bodies) → IsWrittenIn bytes halves uses program bs → HasFewNumbers program → IsLoweredFrom program bs
 
--- the watched run of a source's program is that by the bodies as they were written, for each plan, script and budget
+-- the watched run of a program is that by the bodies as they were written, for each plan, script and budget
 abbrev pub RunsMeanWhatIsWritten : Type 0
 RunsMeanWhatIsWritten =
     (bytes : List ℕ) (halves : Bool) (uses : UseRule) (program : Program) (bs : Bodies) → IsWrittenIn bytes halves uses program bs → HasFewNumbers program
     → (plan : Plan) (script : Bound) (budget : ℕ) → watched program plan script budget ≡ written_run program plan bs script budget
+
+-- so it is of each source, by the bodies in its tree
+abbrev pub SourcesMeanWhatIsWritten : Type 0
+SourcesMeanWhatIsWritten =
+    (bytes : List ℕ) (source : Source) → IsSource bytes source → (plan : Plan) (script : Bound) (budget : ℕ)
+    → watched source.program plan script budget ≡ written_run source.program plan (tree_bodies source.tree) script budget

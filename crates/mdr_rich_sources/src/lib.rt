@@ -5,4 +5,6 @@
 
 mod laws;
 
-pub use laws::{runs_mean_what_is_written, sources_are_lowered};
+pub use laws::{
+    runs_mean_what_is_written, sources_are_lowered, sources_mean_what_is_written,
+};
