@@ -5,6 +5,4 @@
 
 mod laws;
 
-pub use laws::{
-    runs_mean_what_is_written, sources_are_lowered, sources_mean_what_is_written,
-};
+pub use laws::{runs_mean_what_is_written, sources_are_lowered, sources_mean_what_is_written};
