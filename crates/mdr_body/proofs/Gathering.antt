@@ -26,13 +26,13 @@ followed_both (Err e) (Wrong f) (Right ys) = refl
 followed_both (Err e) (Wrong f) (Wrong g) = ap Err (lesser_assoc e (first f) (first g))
 
 -- a loop over a form's parts each of which is a list, at one part
-one_list : {X A : Type 0} (F : List X → Checked (List A)) (c cs : Checked (List A)) (xs : List X) (i : ℕ) (x : X) (a a1 w : Result (List A) Fault) → i < length xs → x ≡ get_or xs i x → F (x ∷ drop (i + 1) xs) ≡ both c cs appended → a1 ≡ followed a (told c) → followed a (told (F (drop i xs))) ≡ w → followed a1 (told cs) ≡ w
+pub one_list : {X A : Type 0} (F : List X → Checked (List A)) (c cs : Checked (List A)) (xs : List X) (i : ℕ) (x : X) (a a1 w : Result (List A) Fault) → i < length xs → x ≡ get_or xs i x → F (x ∷ drop (i + 1) xs) ≡ both c cs appended → a1 ≡ followed a (told c) → followed a (told (F (drop i xs))) ≡ w → followed a1 (told cs) ≡ w
 one_list {X = X} {A = A} F c cs xs i x a a1 w inside is step grown so_far =
     let moved : F (drop i xs) ≡ both c cs appended = at_drop_more F xs i x inside ∙ ap (λ (y : X). F (y ∷ drop (i + 1) xs)) (sym is) ∙ step in
     ap (λ r. followed r (told cs)) grown ∙ followed_both a c cs ∙ sym (ap (λ d. followed a (told d)) moved) ∙ so_far
 
 -- a list that a state is carried over, at one item
-one_state : {X S : Type 0} (F : S → List X → S) (here here1 w : S) (xs : List X) (i : ℕ) (x : X) → i < length xs → x ≡ get_or xs i x → F here1 (drop (i + 1) xs) ≡ F here (x ∷ drop (i + 1) xs) → F here (drop i xs) ≡ w → F here1 (drop (i + 1) xs) ≡ w
+pub one_state : {X S : Type 0} (F : S → List X → S) (here here1 w : S) (xs : List X) (i : ℕ) (x : X) → i < length xs → x ≡ get_or xs i x → F here1 (drop (i + 1) xs) ≡ F here (x ∷ drop (i + 1) xs) → F here (drop i xs) ≡ w → F here1 (drop (i + 1) xs) ≡ w
 one_state F here here1 w xs i x inside is step so_far =
     step ∙ ap (λ y. F here (y ∷ drop (i + 1) xs)) is ∙ sym (at_drop_more (F here) xs i x inside) ∙ so_far
 

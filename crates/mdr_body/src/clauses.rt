@@ -138,10 +138,11 @@ fn leaves(n: &Node) -> bool
 fn last_leaves(nodes: &[Node]) -> bool
     ensures { result ≡ last_leaves false (lines_of nodes.now) }
 {
-    match nodes.last() {
-        None => false,
-        Some(n) => leaves(n),
+    let mut left = false;
+    for n in nodes {
+        left = leaves(n);
     }
+    left
 }
 
 /// Whether a clause of these statements doesn't go on into the one behind it.

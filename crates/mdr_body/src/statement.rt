@@ -11,7 +11,7 @@ ghost use Rattle.mdr_operand.specs.Written.{written_of, line_of, lines_of, claus
 ghost use Rattle.mdr_body.specs.Locals.{is_taken, entered, left, numbered};
 ghost use Rattle.mdr_body.specs.Addresses.{perhaps_takes, takes_at, takes_along, line_what};
 ghost use Rattle.mdr_body.specs.Labels.{labels_made, labels_behind};
-ghost use Rattle.mdr_body.specs.Clauses.{clause_place, ends, made_clause};
+ghost use Rattle.mdr_body.specs.Clauses.{clause_place, ends, is_last, made_clause};
 ghost use Rattle.mdr_body.specs.Statements.{no_jumps, loop_jumps, clause_jumps, inner_jumps, jumps_before, condition, perhaps_condition, pair, taken_behind, head_taken, heads_made, heads_behind, steps_made, steps_behind, ForHead, for_head, behind_head, as_part, if_of, while_of, for_of, do_of, switch_of, tested_value, tested_at, simple_made, simple_behind, line_behind, perhaps_behind, lines_behind, line_made, perhaps_made, lines_made, clauses_behind, clauses_made};
 
 use crate::address::{perhaps_takes, perhaps_takes_at, takes_along, takes_at};
@@ -299,6 +299,20 @@ fn jumps_before(jumps: Jumps, rest: &[Node]) -> Jumps
     } else {
         inner_jumps(jumps)
     }
+}
+
+fn is_last(behind: &[Clause]) -> bool
+    ensures { result ≡ is_last (clauses_of behind.now) }
+{
+    behind.is_empty()
+}
+
+/// Whether the clause of number i is the last of its `switch`.
+fn is_last_at(clauses: &[Clause], i: usize) -> bool
+    requires { i < length clauses.now }
+    ensures { result ≡ is_last (clauses_of (drop (i + 1) clauses.now)) }
+{
+    is_last(&clauses[i + 1..])
 }
 
 /// Which may stand in the statement of number i among those of its list.
@@ -805,7 +819,7 @@ fn clauses_made<R: Typing>(
             here,
             at,
             &mut seen,
-            i + 1 == clauses.len(),
+            is_last_at(clauses, i),
             &clauses[i],
         )?;
         all = followed(all, made)?;
