@@ -2,6 +2,7 @@
 -- The clauses of a `switch`, whose statements are known (C99 6.8.4.2).
 use Rattle.std.specs.Prelude.{◌||◌, Bool, true, false, List, [], ◌∷◌, ◌++◌}
 use Rattle.mdr_rich.specs.declared.code.Clause.{Clause}
+use Rattle.mdr_rich.specs.declared.code.Step.TheViews.{roll-Clause}
 use Rattle.mdr_rich.specs.declared.code.Stmt.{Stmt}
 use Rattle.mdr_core.specs.declared.kind.Kind.{Kind}
 use Rattle.mdr_core.specs.declared.kind.Kind.TheVariants.{S32}
@@ -74,7 +75,7 @@ abbrev pub made_clause : Kind → List CaseLabel → List Stmt → Checked (List
 made_clause k ls ss = Right (record { is_default = has_default ls; labels = cases k ls; body = ss } ∷ [])
 
 abbrev pub tried_clause : MadeClause → Clause
-tried_clause c = record { labels = c.labels; body = c.body }
+tried_clause c = roll-Clause (record { labels = c.labels; body = c.body })
 
 -- the clause with `default` is apart from those whose labels are tried
 abbrev pub with_clause : SortedClauses → MadeClause → SortedClauses

@@ -5,7 +5,7 @@ use Rattle.mdr_body.specs.Clauses.{clause_place, ends, is_last, label_kind}
 use Rattle.mdr_body.specs.Labels.{labels_behind}
 use Rattle.mdr_body.specs.Statements.{ForHead, as_part, behind_head, broken, broken_by, clause_jumps, clauses_behind, clauses_made, condition, declared_then, do_of, for_head, for_of, heads_behind, heads_made, if_of, initial_by, initial_step, inner_jumps, jumped, jumps_before, line_behind, line_made, lines_behind, lines_made, local_made, loop_jumps, no_jumps, own_place, perhaps_behind, perhaps_condition, perhaps_made, return_by, return_step, simple_behind, simple_made, steps_behind, steps_made, switch_of, tested_value, text_of, value_return, while_of}
 use Rattle.mdr_body.specs.declared.clauses.MadeClause.{MadeClause}
-use Rattle.mdr_body.specs.declared.here.Breaks.{Breaks}
+use Rattle.mdr_body.specs.declared.here.Breaks.{Breaks as Leaving}
 use Rattle.mdr_body.specs.declared.here.Breaks.TheVariants as break_of
 use Rattle.mdr_body.specs.declared.here.DeclaredLocal.{DeclaredLocal}
 use Rattle.mdr_body.specs.declared.here.Frame.{Frame}
@@ -120,7 +120,7 @@ jumps : (p q : Place) (in_loop : Bool) (x : Step) → AreAlike (jumped p in_loop
 jumps p q true x = Rights x
 jumps p q false x = Wrongs _ _
 
-broken_by_both : (m n : ℕ) → m ≡ n → (p q : Place) (in_loop : Bool) (leaves : Breaks) → AreAlike (broken_by m p in_loop leaves) (broken_by n q in_loop leaves)
+broken_by_both : (m n : ℕ) → m ≡ n → (p q : Place) (in_loop : Bool) (leaving : Leaving) → AreAlike (broken_by m p in_loop leaving) (broken_by n q in_loop leaving)
 broken_by_both m n e p q in_loop break_of.Loop = stated_both m n e (jumps p q in_loop step.Break)
 broken_by_both m n e p q in_loop break_of.Clause = Rights _
 broken_by_both m n e p q in_loop break_of.Nothing = Wrongs _ _

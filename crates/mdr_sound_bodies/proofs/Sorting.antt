@@ -1,11 +1,11 @@
 -- What holds of each clause of a `switch` holds of those that are tried, and of the one with `default` (C99 6.8.4.2).
-use Rattle.std.proofs.Common.{Bool, true, false, List, [], ◌∷◌, ◌++◌, sym, subst}
+use Rattle.std.proofs.Common.{ℕ, Bool, true, false, List, [], ◌∷◌, ◌++◌, sym, subst}
 use Rattle.mdr_core.specs.declared.value.Value.{Value}
 use Rattle.mdr_core.specs.Layout.{chosen}
 use Rattle.mdr_rich.specs.declared.code.Clause.{Clause}
-use Rattle.mdr_rich.specs.Code.{Codes}
-use Rattle.mdr_rich.specs.Folds.{Labelled, codes_of, clause_of}
-use Rattle.mdr_rich.proofs.Coded.{clause_is}
+use Rattle.mdr_rich.specs.declared.code.Step.TheFolds.{fold-roll-Clause}
+use Rattle.mdr_rich.specs.Code.{Code, Codes}
+use Rattle.mdr_rich.specs.Folds.{Labelled, codes_of, clause_layer, clause_of, step_layer, stmt_layer}
 use Rattle.mdr_body.specs.declared.clauses.MadeClause.{MadeClause}
 use Rattle.mdr_body.specs.declared.clauses.SortedClauses.{SortedClauses}
 use Rattle.mdr_body.specs.Clauses.{no_clauses, sorted, tried_clause, with_clause}
@@ -33,7 +33,7 @@ module _ (P : List Value → Codes → Type 0) (D : Codes → Type 0) where
   tried_last (d ∷ ds) c h k = (h.0, tried_last ds c h.1 k)
 
   tried_one : (m : MadeClause) → P m.labels (codes_of m.body) → P (clause_of (tried_clause m)).0 (clause_of (tried_clause m)).1
-  tried_one m h = subst (λ (c : Labelled). P c.0 c.1) (sym (clause_is (tried_clause m))) h
+  tried_one m h = subst (λ (c : Labelled). P c.0 c.1) (sym (fold-roll-Clause (ℕ → Code) Labelled Code step_layer clause_layer stmt_layer (record { labels = m.labels; body = m.body }))) h
 
   module _ (only : (vs : List Value) (cs : Codes) → P vs cs → D cs) where
     with_one : (s : SortedClauses) (m : MadeClause) → IsSorted s → P m.labels (codes_of m.body) → IsSorted (with_clause s m)

@@ -27,7 +27,8 @@ use Rattle.mdr_core.specs.Kinds.{is_same_kind}
 use Rattle.mdr_core.specs.Layout.{chosen}
 use Rattle.mdr_core.specs.Typing.{Slot}
 use Rattle.mdr_rich.specs.declared.code.CallForm.{CallForm as RichCallForm}
-use Rattle.mdr_rich.specs.declared.code.Clause.{Clause as RichClause, roll-Clause}
+use Rattle.mdr_rich.specs.declared.code.Clause.{Clause as RichClause}
+use Rattle.mdr_rich.specs.declared.code.Step.TheViews.{roll-Clause}
 use Rattle.mdr_rich.specs.declared.code.Expr.{Expr as RichExpr}
 use Rattle.mdr_rich.specs.declared.code.Lval.{Lval as RichLval}
 use Rattle.mdr_rich.specs.declared.code.Step.{Step as RichStep, roll-Step}
