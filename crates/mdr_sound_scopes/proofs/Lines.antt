@@ -1,5 +1,5 @@
 -- Statements name objects only where they live, if what stands in them does.
-use Rattle.std.proofs.Common.{◌≡◌, ◌⊎◌, ℕ, ◌||◌, Bool, true, false, List, [], length, Option, Some, Ok, refl, sym, ◌∙◌, subst}
+use Rattle.std.proofs.Common.{◌≡◌, ◌⊎◌, ℕ, ◌||◌, Bool, true, false, List, [], ◌∷◌, length, Option, Some, Ok, refl, sym, ◌∙◌, subst}
 use Rattle.mdr_rich.specs.declared.code.Clause.{Clause}
 use Rattle.mdr_rich.specs.declared.code.Expr.{Expr}
 use Rattle.mdr_rich.specs.declared.code.Step.TheVariants as step
