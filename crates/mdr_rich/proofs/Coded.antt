@@ -9,6 +9,7 @@ use Rattle.mdr_core.specs.declared.code.RelOp.{RelOp}
 use Rattle.mdr_rich.specs.declared.code.Lval.{Lval}
 use Rattle.mdr_rich.specs.declared.code.Expr.{Expr}
 use Rattle.mdr_rich.specs.declared.code.CallForm.{CallForm}
+use Rattle.mdr_rich.specs.declared.code.Clause.{Clause, out-Clause}
 use Rattle.mdr_rich.specs.declared.code.Stmt.{Stmt}
 use Rattle.mdr_rich.specs.declared.code.Step.{Step}
 use Rattle.mdr_rich.specs.declared.code.Expr.TheOpen.{Expr-F, Lval-F}
@@ -18,12 +19,12 @@ use Rattle.mdr_rich.specs.declared.code.Expr.TheVariants.{rolls-Lit, rolls-Load,
 use Rattle.mdr_rich.specs.declared.code.Lval.TheVariants as lval
 use Rattle.mdr_rich.specs.declared.code.Lval.TheVariants.{rolls-Slot, rolls-Object, rolls-Global, rolls-Deref, rolls-Member, rolls-Index}
 use Rattle.mdr_rich.specs.declared.code.Step.TheOpen.{Step-F}
-use Rattle.mdr_rich.specs.declared.code.Step.TheFolds.{fold-Step, fold-roll-Step, fold_out-Stmt}
+use Rattle.mdr_rich.specs.declared.code.Step.TheFolds.{fold-Step, fold-roll-Step, fold_out-Stmt, fold_out-Clause}
 use Rattle.mdr_rich.specs.declared.code.Step.TheVariants as step
-use Rattle.mdr_rich.specs.declared.code.Step.TheVariants.{rolls-Declare, rolls-Text, rolls-Assign, rolls-Call, rolls-If, rolls-While, rolls-For, rolls-Return, rolls-ReturnCall, rolls-Break, rolls-Continue, rolls-Empty, rolls-Block}
+use Rattle.mdr_rich.specs.declared.code.Step.TheVariants.{rolls-Declare, rolls-Text, rolls-Assign, rolls-Call, rolls-If, rolls-While, rolls-For, rolls-Do, rolls-Switch, rolls-Return, rolls-ReturnCall, rolls-Break, rolls-Continue, rolls-Empty, rolls-Block}
 use Rattle.mdr_core.specs.Code.{Way}
 use Rattle.mdr_rich.specs.Code.{Term, Lvalue, Called, Goal, Code, Codes, term_list}
-use Rattle.mdr_rich.specs.Folds.{term_layer, lvalue_layer, term_of, lvalue_of, call_of, goal_of, test_of, before, step_layer, stmt_layer, code_of, codes_of}
+use Rattle.mdr_rich.specs.Folds.{term_layer, lvalue_layer, term_of, lvalue_of, call_of, goal_of, test_of, before, Labelled, step_layer, stmt_layer, clause_layer, code_of, clause_of, codes_of, clauses_of}
 
 -- ---- expressions and lvalues
 
@@ -112,72 +113,85 @@ index_is p e = ap lvalue_of (sym (rolls-Index p e)) ∙ fold-roll-Lval Term Lval
 
 -- a step as code, with its statement's number
 abbrev pub numbered : Step → ℕ → Code
-numbered = fold-Step (ℕ → Code) Code step_layer stmt_layer
+numbered = fold-Step (ℕ → Code) Labelled Code step_layer clause_layer stmt_layer
 
 pub code_is : (s : Stmt) (st : Step) → s.step ≡ st → code_of s ≡ numbered st s.number
-code_is s st is = fold_out-Stmt (ℕ → Code) Code step_layer stmt_layer s ∙ ap (λ (x : Step). numbered x s.number) is
+code_is s st is = fold_out-Stmt (ℕ → Code) Labelled Code step_layer clause_layer stmt_layer s ∙ ap (λ (x : Step). numbered x s.number) is
 
 pub declare_is : (n : ℕ) (i : ℕ) → numbered (step.Declare i) n ≡ Code.Declare n i
 declare_is n i =
     ap (λ (s : Step). numbered s n) (sym (rolls-Declare i))
-    ∙ ap (λ (f : ℕ → Code). f n) (fold-roll-Step (ℕ → Code) Code step_layer stmt_layer (Step-F.Declare i))
+    ∙ ap (λ (f : ℕ → Code). f n) (fold-roll-Step (ℕ → Code) Labelled Code step_layer clause_layer stmt_layer (Step-F.Declare i))
 
 pub text_is : (n : ℕ) (i : ℕ) (text : List ℕ) → numbered (step.Text i text) n ≡ Code.Text n i text
 text_is n i text =
     ap (λ (s : Step). numbered s n) (sym (rolls-Text i text))
-    ∙ ap (λ (f : ℕ → Code). f n) (fold-roll-Step (ℕ → Code) Code step_layer stmt_layer (Step-F.Text i text))
+    ∙ ap (λ (f : ℕ → Code). f n) (fold-roll-Step (ℕ → Code) Labelled Code step_layer clause_layer stmt_layer (Step-F.Text i text))
 
 pub assign_is : (n : ℕ) (p : Lval) (e : Expr) → numbered (step.Assign p e) n ≡ Code.Assign n (lvalue_of p) (term_of e)
 assign_is n p e =
     ap (λ (s : Step). numbered s n) (sym (rolls-Assign p e))
-    ∙ ap (λ (f : ℕ → Code). f n) (fold-roll-Step (ℕ → Code) Code step_layer stmt_layer (Step-F.Assign p e))
+    ∙ ap (λ (f : ℕ → Code). f n) (fold-roll-Step (ℕ → Code) Labelled Code step_layer clause_layer stmt_layer (Step-F.Assign p e))
 
 pub call_is : (n : ℕ) (target : Option Lval) (form : CallForm) → numbered (step.Call target form) n ≡ Code.Call n (goal_of target) (call_of form)
 call_is n target form =
     ap (λ (s : Step). numbered s n) (sym (rolls-Call target form))
-    ∙ ap (λ (f : ℕ → Code). f n) (fold-roll-Step (ℕ → Code) Code step_layer stmt_layer (Step-F.Call target form))
+    ∙ ap (λ (f : ℕ → Code). f n) (fold-roll-Step (ℕ → Code) Labelled Code step_layer clause_layer stmt_layer (Step-F.Call target form))
 
 pub if_is : (n : ℕ) (e : Expr) (one other : List Stmt) → numbered (step.If e one other) n ≡ Code.If n (term_of e) (codes_of one) (codes_of other)
 if_is n e one other =
     ap (λ (s : Step). numbered s n) (sym (rolls-If e one other))
-    ∙ ap (λ (f : ℕ → Code). f n) (fold-roll-Step (ℕ → Code) Code step_layer stmt_layer (Step-F.If e one other))
+    ∙ ap (λ (f : ℕ → Code). f n) (fold-roll-Step (ℕ → Code) Labelled Code step_layer clause_layer stmt_layer (Step-F.If e one other))
 
 pub while_is : (n : ℕ) (e : Expr) (body : List Stmt) → numbered (step.While e body) n ≡ Code.Loop n (term_of e) Codes.End (codes_of body)
 while_is n e body =
     ap (λ (s : Step). numbered s n) (sym (rolls-While e body))
-    ∙ ap (λ (f : ℕ → Code). f n) (fold-roll-Step (ℕ → Code) Code step_layer stmt_layer (Step-F.While e body))
+    ∙ ap (λ (f : ℕ → Code). f n) (fold-roll-Step (ℕ → Code) Labelled Code step_layer clause_layer stmt_layer (Step-F.While e body))
 
 pub for_is : (n : ℕ) (init : List Stmt) (test : Option Expr) (next body : List Stmt) → numbered (step.For init test next body) n ≡ Code.Block (before (map code_of init) (Code.Loop n (test_of test) (codes_of next) (codes_of body)))
 for_is n init test next body =
     ap (λ (s : Step). numbered s n) (sym (rolls-For init test next body))
-    ∙ ap (λ (f : ℕ → Code). f n) (fold-roll-Step (ℕ → Code) Code step_layer stmt_layer (Step-F.For init test next body))
+    ∙ ap (λ (f : ℕ → Code). f n) (fold-roll-Step (ℕ → Code) Labelled Code step_layer clause_layer stmt_layer (Step-F.For init test next body))
+
+pub do_is : (n : ℕ) (body : List Stmt) (e : Expr) → numbered (step.Do body e) n ≡ Code.Do n (codes_of body) (term_of e)
+do_is n body e =
+    ap (λ (s : Step). numbered s n) (sym (rolls-Do body e))
+    ∙ ap (λ (f : ℕ → Code). f n) (fold-roll-Step (ℕ → Code) Labelled Code step_layer clause_layer stmt_layer (Step-F.Do body e))
+
+pub switch_is : (n : ℕ) (e : Expr) (clauses : List Clause) (body : List Stmt) → numbered (step.Switch e clauses body) n ≡ Code.Switch n (term_of e) (clauses_of clauses body)
+switch_is n e clauses body =
+    ap (λ (s : Step). numbered s n) (sym (rolls-Switch e clauses body))
+    ∙ ap (λ (f : ℕ → Code). f n) (fold-roll-Step (ℕ → Code) Labelled Code step_layer clause_layer stmt_layer (Step-F.Switch e clauses body))
+
+pub clause_is : (c : Clause) → clause_of c ≡ ((out-Clause c).labels, codes_of (out-Clause c).body)
+clause_is c = fold_out-Clause (ℕ → Code) Labelled Code step_layer clause_layer stmt_layer c
 
 pub return_is : (n : ℕ) (e : Option Expr) → numbered (step.Return e) n ≡ Code.Return n (option_map term_of e)
 return_is n e =
     ap (λ (s : Step). numbered s n) (sym (rolls-Return e))
-    ∙ ap (λ (f : ℕ → Code). f n) (fold-roll-Step (ℕ → Code) Code step_layer stmt_layer (Step-F.Return e))
+    ∙ ap (λ (f : ℕ → Code). f n) (fold-roll-Step (ℕ → Code) Labelled Code step_layer clause_layer stmt_layer (Step-F.Return e))
 
 pub return_call_is : (n : ℕ) (form : CallForm) → numbered (step.ReturnCall form) n ≡ Code.Call n Goal.Back (call_of form)
 return_call_is n form =
     ap (λ (s : Step). numbered s n) (sym (rolls-ReturnCall form))
-    ∙ ap (λ (f : ℕ → Code). f n) (fold-roll-Step (ℕ → Code) Code step_layer stmt_layer (Step-F.ReturnCall form))
+    ∙ ap (λ (f : ℕ → Code). f n) (fold-roll-Step (ℕ → Code) Labelled Code step_layer clause_layer stmt_layer (Step-F.ReturnCall form))
 
 pub break_is : (n : ℕ) → numbered step.Break n ≡ Code.Jump n Way.Breaks
 break_is n =
     ap (λ (s : Step). numbered s n) (sym rolls-Break)
-    ∙ ap (λ (f : ℕ → Code). f n) (fold-roll-Step (ℕ → Code) Code step_layer stmt_layer Step-F.Break)
+    ∙ ap (λ (f : ℕ → Code). f n) (fold-roll-Step (ℕ → Code) Labelled Code step_layer clause_layer stmt_layer Step-F.Break)
 
 pub continue_is : (n : ℕ) → numbered step.Continue n ≡ Code.Jump n Way.Continues
 continue_is n =
     ap (λ (s : Step). numbered s n) (sym rolls-Continue)
-    ∙ ap (λ (f : ℕ → Code). f n) (fold-roll-Step (ℕ → Code) Code step_layer stmt_layer Step-F.Continue)
+    ∙ ap (λ (f : ℕ → Code). f n) (fold-roll-Step (ℕ → Code) Labelled Code step_layer clause_layer stmt_layer Step-F.Continue)
 
 pub empty_is : (n : ℕ) → numbered step.Empty n ≡ Code.Jump n Way.Ends
 empty_is n =
     ap (λ (s : Step). numbered s n) (sym rolls-Empty)
-    ∙ ap (λ (f : ℕ → Code). f n) (fold-roll-Step (ℕ → Code) Code step_layer stmt_layer Step-F.Empty)
+    ∙ ap (λ (f : ℕ → Code). f n) (fold-roll-Step (ℕ → Code) Labelled Code step_layer clause_layer stmt_layer Step-F.Empty)
 
 pub block_is : (n : ℕ) (body : List Stmt) → numbered (step.Block body) n ≡ Code.Block (codes_of body)
 block_is n body =
     ap (λ (s : Step). numbered s n) (sym (rolls-Block body))
-    ∙ ap (λ (f : ℕ → Code). f n) (fold-roll-Step (ℕ → Code) Code step_layer stmt_layer (Step-F.Block body))
+    ∙ ap (λ (f : ℕ → Code). f n) (fold-roll-Step (ℕ → Code) Labelled Code step_layer clause_layer stmt_layer (Step-F.Block body))

@@ -86,6 +86,10 @@ mutual
     If : (number : ℕ) → Term → (one other : Codes) → Code
     -- a `while` or a `for`: the step follows each turn of the body
     Loop : (number : ℕ) → Term → (step body : Codes) → Code
+    -- the test follows each turn of the body (6.8.5.2)
+    Do : (number : ℕ) → Codes → Term → Code
+    -- a value, and the clauses that it is tried with (6.8.4.2)
+    Switch : (number : ℕ) → Term → Clauses → Code
     Block : Codes → Code
     Return : (number : ℕ) → Option Term → Code
     Jump : (number : ℕ) → Way → Code
@@ -93,3 +97,8 @@ mutual
   pub data Codes : Type 0 where
     End : Codes
     Then : Code → Codes → Codes
+
+  -- the clauses of a `switch` in their order, each with its labels, and without the `break` at its end; behind them what `default` does
+  pub data Clauses : Type 0 where
+    Default : Codes → Clauses
+    Clause : (labels : List Value) → Codes → Clauses → Clauses

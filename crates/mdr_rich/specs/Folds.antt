@@ -3,6 +3,7 @@
 use Rattle.std.specs.Prelude.{ℕ, pos, List, [], ◌∷◌, map, Option, Some, None}
 use Rattle.std.specs.Option.{option_map}
 use Rattle.mdr_core.specs.declared.kind.Kind.TheVariants.{S32}
+use Rattle.mdr_core.specs.declared.value.Value.{Value}
 use Rattle.mdr_core.specs.declared.value.Value.TheVariants as value
 use Rattle.mdr_rich.specs.declared.code.Lval.{Lval}
 use Rattle.mdr_rich.specs.declared.code.Expr.{Expr}
@@ -11,11 +12,12 @@ use Rattle.mdr_rich.specs.declared.code.Expr.TheFolds.{fold-Expr, fold-Lval}
 use Rattle.mdr_rich.specs.declared.code.Callee.{Callee}
 use Rattle.mdr_rich.specs.declared.code.Callee.TheVariants as callee
 use Rattle.mdr_rich.specs.declared.code.CallForm.{CallForm}
-use Rattle.mdr_rich.specs.declared.code.Step.TheOpen.{Step-F, Stmt-F}
-use Rattle.mdr_rich.specs.declared.code.Step.TheFolds.{fold-Stmt}
+use Rattle.mdr_rich.specs.declared.code.Clause.{Clause}
+use Rattle.mdr_rich.specs.declared.code.Step.TheOpen.{Step-F, Clause-F, Stmt-F}
+use Rattle.mdr_rich.specs.declared.code.Step.TheFolds.{fold-Stmt, fold-Clause}
 use Rattle.mdr_rich.specs.declared.code.Stmt.{Stmt}
 use Rattle.mdr_core.specs.Code.{Way}
-use Rattle.mdr_rich.specs.Code.{Term, Lvalue, Called, CallOf, Goal, Code, Codes, term_list}
+use Rattle.mdr_rich.specs.Code.{Term, Lvalue, Called, CallOf, Goal, Code, Codes, Clauses, term_list}
 
 -- ---- expressions
 
@@ -86,7 +88,15 @@ abbrev pub before : List Code → Code → Codes
 before [] c = Codes.Then c Codes.End
 before (d ∷ ds) c = Codes.Then d (before ds c)
 
-abbrev pub step_layer : Step-F (ℕ → Code) Code → ℕ → Code
+-- a clause: its labels, and what follows them
+abbrev pub Labelled : Type 0
+Labelled = List Value × Codes
+
+abbrev pub clause_list : List Labelled → (default : Codes) → Clauses
+clause_list [] body = Clauses.Default body
+clause_list (c ∷ cs) body = Clauses.Clause c.0 c.1 (clause_list cs body)
+
+abbrev pub step_layer : Step-F (ℕ → Code) Labelled Code → ℕ → Code
 step_layer (Step-F.Declare i) n = Code.Declare n i
 step_layer (Step-F.Text i text) n = Code.Text n i text
 step_layer (Step-F.Assign p e) n = Code.Assign n (lvalue_of p) (term_of e)
@@ -94,6 +104,8 @@ step_layer (Step-F.Call target form) n = Code.Call n (goal_of target) (call_of f
 step_layer (Step-F.If e one other) n = Code.If n (term_of e) (code_list one) (code_list other)
 step_layer (Step-F.While e body) n = Code.Loop n (term_of e) Codes.End (code_list body)
 step_layer (Step-F.For init test step body) n = Code.Block (before init (Code.Loop n (test_of test) (code_list step) (code_list body)))
+step_layer (Step-F.Do body e) n = Code.Do n (code_list body) (term_of e)
+step_layer (Step-F.Switch e clauses body) n = Code.Switch n (term_of e) (clause_list clauses (code_list body))
 step_layer (Step-F.Return e) n = Code.Return n (option_map term_of e)
 step_layer (Step-F.ReturnCall form) n = Code.Call n Goal.Back (call_of form)
 step_layer Step-F.Break n = Code.Jump n Way.Breaks
@@ -101,11 +113,21 @@ step_layer Step-F.Continue n = Code.Jump n Way.Continues
 step_layer Step-F.Empty n = Code.Jump n Way.Ends
 step_layer (Step-F.Block body) n = Code.Block (code_list body)
 
-abbrev pub stmt_layer : Stmt-F (ℕ → Code) Code → Code
+abbrev pub clause_layer : Clause-F (ℕ → Code) Labelled Code → Labelled
+clause_layer c = (c.labels, code_list c.body)
+
+abbrev pub stmt_layer : Stmt-F (ℕ → Code) Labelled Code → Code
 stmt_layer s = s.step s.number
 
 abbrev pub code_of : Stmt → Code
-code_of = fold-Stmt (ℕ → Code) Code step_layer stmt_layer
+code_of = fold-Stmt (ℕ → Code) Labelled Code step_layer clause_layer stmt_layer
+
+abbrev pub clause_of : Clause → Labelled
+clause_of = fold-Clause (ℕ → Code) Labelled Code step_layer clause_layer stmt_layer
 
 abbrev pub codes_of : List Stmt → Codes
 codes_of ss = code_list (map code_of ss)
+
+-- the clauses of a `switch`, and what its `default` does
+abbrev pub clauses_of : List Clause → (default : List Stmt) → Clauses
+clauses_of cs body = clause_list (map clause_of cs) (codes_of body)

@@ -1,17 +1,18 @@
 -- for proofs
 -- The types of the forms of a source's bodies (C99 6.5, 6.8): the rules of a program's forms, over those of their parts.
-use Rattle.std.specs.Prelude.{◌≡◌, ℕ, Bool, true, false, List, [], ◌∷◌, length, map, Option, Some, None, slice_get, IsTrue, ◌⊎◌}
+use Rattle.std.specs.Prelude.{◌≡◌, ℕ, ◌≤◌, Bool, true, false, List, [], ◌∷◌, length, map, Option, Some, None, slice_get, IsTrue, ◌⊎◌}
 use Rattle.mdr_core.specs.declared.kind.Kind.{Kind}
 use Rattle.mdr_core.specs.declared.types.Ty.{Ty}
 use Rattle.mdr_core.specs.declared.types.Ty.TheVariants as type
 use Rattle.mdr_core.specs.declared.program.Program.{Program}
 use Rattle.mdr_core.specs.declared.program.Func.{Func}
 use Rattle.mdr_core.specs.declared.program.Param.{Param}
+use Rattle.mdr_core.specs.declared.value.Value.{Value}
 use Rattle.mdr_core.specs.declared.value.Value.TheVariants as value
 use Rattle.mdr_core.specs.Services.{Service, RequestIrq, Signature, offered, service_numbered}
 use Rattle.mdr_core.specs.Types.{Scalar, Becomes, is_scalar, sort_of}
 use Rattle.mdr_core.specs.Typing.{Slot, Extent, One, Many, int, ptr, Literal, IsSlot, IsGlobal, IsTarget, IsMember, IsElement, IsLoad, IsDecay, IsUnary, IsCondition, IsNegation, IsBinary, IsRelation, IsLogical, IsConversion, IsToVoid, IsFromVoid, IsMove, IsDifference, IsLocal, TakesText, JumpsInside, IsIf, IsLoop, IsNumbered}
-use Rattle.mdr_rich.specs.Code.{Term, Lvalue, Called, Terms, CallOf, Goal, Code, Codes, term_list}
+use Rattle.mdr_rich.specs.Code.{Term, Lvalue, Called, Terms, CallOf, Goal, Code, Codes, Clauses, term_list}
 
 -- ---- addresses
 
@@ -240,6 +241,29 @@ abbrev pub Returns : Program → List Slot → Ty → Option Term → Type 0
 Returns program slots result None = result ≡ type.Void
 Returns program slots result (Some e) = IsTrue (is_scalar result) × Has program slots e result
 
+-- 6.8.5.2
+pub record IsDo (number : ℕ) (body test : Type 0) : Type 0 where
+  pub numbered : 1 ≤ number
+  pub turn : body
+  pub condition : test
+
+-- 6.8.4.2: an integer is tried with constants of its kind
+pub record IsSwitch (number : ℕ) (tested : Ty → Type 0) (clauses : Kind → Type 0) : Type 0 where
+  pub numbered : 1 ≤ number
+  pub kind : Kind
+  pub value : tested (int kind)
+  pub parts : clauses kind
+
+-- constants of a kind
+abbrev pub AreLabels : Program → Kind → List Value → Type 0
+AreLabels program k [] = Unit {0}
+AreLabels program k (v ∷ vs) = Literal program v (int k) × AreLabels program k vs
+
+pub record IsClause (labels body rest : Type 0) : Type 0 where
+  pub labelled : labels
+  pub turn : body
+  pub later : rest
+
 abbrev mutual
   -- the statement is right in a function with this result, in a loop or outside
   pub IsTyped : Program → List Slot → (result : Ty) → (in_loop : Bool) → Code → Type 0
@@ -249,6 +273,8 @@ abbrev mutual
   IsTyped program slots result in_loop (Code.Call n goal call) = IsNumbered n (GoesTo program slots result goal call)
   IsTyped program slots result in_loop (Code.If n e one other) = IsIf n (IsCondition (Has program slots e)) (AreTyped program slots result in_loop one) (AreTyped program slots result in_loop other)
   IsTyped program slots result in_loop (Code.Loop n e step body) = IsLoop n (IsCondition (Has program slots e)) (AreTyped program slots result false step) (AreTyped program slots result true body)
+  IsTyped program slots result in_loop (Code.Do n body e) = IsDo n (AreTyped program slots result true body) (IsCondition (Has program slots e))
+  IsTyped program slots result in_loop (Code.Switch n e clauses) = IsSwitch n (Has program slots e) (λ k. AreClauses program slots result in_loop k clauses)
   IsTyped program slots result in_loop (Code.Block body) = AreTyped program slots result in_loop body
   IsTyped program slots result in_loop (Code.Return n e) = IsNumbered n (Returns program slots result e)
   IsTyped program slots result in_loop (Code.Jump n way) = IsNumbered n (JumpsInside in_loop way)
@@ -256,3 +282,8 @@ abbrev mutual
   pub AreTyped : Program → List Slot → (result : Ty) → (in_loop : Bool) → Codes → Type 0
   AreTyped program slots result in_loop Codes.End = Unit {0}
   AreTyped program slots result in_loop (Codes.Then c cs) = IsTyped program slots result in_loop c × AreTyped program slots result in_loop cs
+
+  -- the clauses of a `switch` over a value of the kind
+  pub AreClauses : Program → List Slot → (result : Ty) → (in_loop : Bool) → Kind → Clauses → Type 0
+  AreClauses program slots result in_loop k (Clauses.Default body) = AreTyped program slots result in_loop body
+  AreClauses program slots result in_loop k (Clauses.Clause labels body rest) = IsClause (AreLabels program k labels) (AreTyped program slots result in_loop body) (AreClauses program slots result in_loop k rest)

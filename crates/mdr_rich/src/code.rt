@@ -103,6 +103,10 @@ pub enum Step {
     While(Expr, Items<Stmt>),
     /// The init, the test, the step and the body.
     For(Items<Stmt>, Option<Expr>, Items<Stmt>, Items<Stmt>),
+    /// The body, and the test behind it (C99 6.8.5.2).
+    Do(Items<Stmt>, Expr),
+    /// A value, the clauses that it is tried with in their order, and the body of `default` (C99 6.8.4.2).
+    Switch(Expr, Items<Clause>, Items<Stmt>),
     Return(Option<Expr>),
     /// The value of a call is returned.
     ReturnCall(CallForm),
@@ -118,4 +122,13 @@ pub enum Step {
 pub struct Stmt {
     pub number: u32,
     pub step: Step,
+}
+
+/// A part of a `switch`: the constants of its labels, of the kind of the value that is tried, and what follows them
+/// without the `break` at its end.
+#[cycle(statement)]
+#[derive(Drop)]
+pub struct Clause {
+    pub labels: Items<Value>,
+    pub body: Items<Stmt>,
 }

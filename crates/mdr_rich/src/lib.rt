@@ -5,4 +5,4 @@ mod activity;
 mod code;
 
 pub use activity::{is_active, is_active_place};
-pub use code::{CallForm, Callee, Expr, Lval, Step, Stmt};
+pub use code::{CallForm, Callee, Clause, Expr, Lval, Step, Stmt};
