@@ -115,16 +115,16 @@ module _ (b : Both) where
 
   -- ---- what waits
 
-  ready_as : (d : ℕ) (u : List Wire) (r e f : Ready Wire) → e ≡ f → R d u r e → R d u r f
+  pub ready_as : (d : ℕ) (u : List Wire) (r e f : Ready Wire) → e ≡ f → R d u r e → R d u r f
   ready_as d u r e f is h = subst (R d u r) is h
 
-  ready_literal : (v : Wire) (d : ℕ) (u : List Wire) → R d u (literal v) (literal v)
+  pub ready_literal : (v : Wire) (d : ℕ) (u : List Wire) → R d u (literal v) (literal v)
   ready_literal v d u = record { by = λ at t u1 sees near k. refl }
 
   ready_one : (f : Wire → Result Wire StopKind) (e : Ready Wire) (d : ℕ) (u : List Wire) (r : Ready Wire) → R d u r e → R d u (one f r) (one f e)
   ready_one f e d u r ready = record { by = λ at t u1 sees near k. ready.by at t u1 sees near (λ x. given at (f x) k) }
 
-  ready_two : (f : Wire → Wire → Result Wire StopKind) (ea eb : Ready Wire) (d : ℕ) (u : List Wire) (ra rb : Ready Wire) → R d u ra ea → R d u rb eb → R d u (two f ra rb) (two f ea eb)
+  pub ready_two : (f : Wire → Wire → Result Wire StopKind) (ea eb : Ready Wire) (d : ℕ) (u : List Wire) (ra rb : Ready Wire) → R d u ra ea → R d u rb eb → R d u (two f ra rb) (two f ea eb)
   ready_two f ea eb d u ra rb x y = record {
     by = λ at t u1 sees near k. x.by at t u1 sees near _ ∙ ap (ea at u1) (fun_ext (λ v. y.by at t u1 sees near (λ w. given at (f v w) k)));
   }
@@ -143,7 +143,7 @@ module _ (b : Both) where
         x.by at t u1 sees near _ ∙ ap (ea at u1) (fun_ext (λ v. first_same (rb at t) (eb at u1) (y.by at t u1 sees near) (is_true v) (truth_of false) (λ z. k (truth_of (is_true z)))));
   }
 
-  ready_either : (ea eb : Ready Wire) (d : ℕ) (u : List Wire) (ra rb : Ready Wire) → R d u ra ea → R d u rb eb → R d u (either ra rb) (either ea eb)
+  pub ready_either : (ea eb : Ready Wire) (d : ℕ) (u : List Wire) (ra rb : Ready Wire) → R d u ra ea → R d u rb eb → R d u (either ra rb) (either ea eb)
   ready_either ea eb d u ra rb x y = record {
     by = λ at t u1 sees near k.
         x.by at t u1 sees near _ ∙ ap (ea at u1) (fun_ext (λ v. second_same (rb at t) (eb at u1) (y.by at t u1 sees near) (is_true v) (truth_of true) (λ z. k (truth_of (is_true z)))));
@@ -159,8 +159,11 @@ module _ (b : Both) where
 
   -- ---- forms of one part and of two
 
-  valued_is : (e : Expr) (t : PlainTerm) → term_of e ≡ t → V b e ≡ valued b.known t
+  pub valued_is : (e : Expr) (t : PlainTerm) → term_of e ≡ t → V b e ≡ valued b.known t
   valued_is e t is = ap (valued b.known) is
+
+  pub ready_or : (x y : Expr) (d : ℕ) (u : List Wire) (rx ry : Ready Wire) → R d u rx (V b x) → R d u ry (V b y) → R d u (either rx ry) (V b (expr.Or x y))
+  ready_or x y d u rx ry hx hy = ready_as d u (either rx ry) (either (V b x) (V b y)) (V b (expr.Or x y)) (sym (valued_is (expr.Or x y) (PlainTerm.Or (term_of x) (term_of y)) (or_is x y))) (ready_either (V b x) (V b y) d u rx ry hx hy)
 
   goes_one : (f : Wire → Result Wire StopKind) (g : Expr → Expr) → ((e : Expr) → V b (g e) ≡ one f (V b e)) → (p : Prep Wire) (w : Work) (x : Work × Expr) → G p w x → G (made (one f) p) w (mapped g x)
   goes_one f g is p w x h = goes_as b Wire (made (one f) p) w x.0 (one f (V b x.1)) (V b (g x.1)) (sym (is x.1)) (goes_map b Wire Wire p (one f) w x.0 (V b x.1) (ready_one f (V b x.1)) h)
@@ -218,6 +221,12 @@ module _ (b : Both) where
       goes_disjoined : G (disjoined b.here n pa pb) w (disjoined_low n x y)
       goes_disjoined = goes_armed b n x.0.next (taken b.here n (made truly pa)) w first (λ r. now r) (λ r. taken b.here n (made truly pb)) (inside first.0) last h.grows goes_first
           (λ f. goes_second.back f) (λ c. goes_second.counted c) goes_second.grows (way_now b x.0.next first.0 last goes_second.grows) (way_second last (λ f. f) (omega arith))
+
+    pub disjoined_back : Fits (N b) b.all (disjoined_low n x y).0 → Fits (N b) b.all x.0
+    disjoined_back f = slot_back (N b) b.all (type.Int S32) x.0 (goes_second.back f)
+
+    pub disjoined_counted : IsCounted (N b) b.all x.0 → IsCounted (N b) b.all (disjoined_low n x y).0
+    disjoined_counted c = goes_second.counted (slot_counted (N b) b.all (type.Int S32) x.0 c)
 
     -- where the left operand stands ready at certain slots
     pub begins_disjoined : (r : Ready Wire) (t u born : List Wire) → IsCounted (N b) b.all x.0 → Fits (N b) b.all (disjoined_low n x y).0 → Sees (N b) b.all t u → R x.0.next u r (V b x.1)
@@ -307,7 +316,7 @@ module _ (b : Both) where
     by false = ready_as d u (one (λ x. Ok (wire.Int l (converted l (integer x)))) r) (one (λ x. Ok (wire.Int l (converted l (integer x)))) (V b e)) (V b (expr.Conv l e)) (sym (valued_is (expr.Conv l e) (PlainTerm.Conv l (term_of e)) (conv_is l e)))
         (ready_one (λ x. Ok (wire.Int l (converted l (integer x)))) (V b e) d u r ready)
 
-  literal_valued : (v : Value) → V b (expr.Lit v) ≡ literal (wire_of v)
+  pub literal_valued : (v : Value) → V b (expr.Lit v) ≡ literal (wire_of v)
   literal_valued v = valued_is (expr.Lit v) (PlainTerm.Lit v) (lit_is v)
 
   operator_same : (up : Bool) → step_operator up ≡ operator_low up

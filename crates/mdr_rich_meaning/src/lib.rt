@@ -9,4 +9,4 @@ mod laws;
 mod worked;
 
 pub use laws::lowering_keeps_trees;
-pub use worked::{parts_are_taken, values_are_right};
+pub use worked::{functions_are_right, parts_are_taken, turns_and_clauses, values_are_right};
