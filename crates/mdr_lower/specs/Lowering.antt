@@ -1,6 +1,6 @@
 -- believed
 -- The code of a source's bodies, lowered to that of a program: one line for each form. What takes ticks of its own becomes statements, all with the number of the statement that it stands in, and a value that is kept lies in a new slot.
-use Rattle.std.specs.Prelude.{ℕ, ◌+◌, Bool, true, false, not, ◌&&◌, pos, List, [], ◌∷◌, ◌++◌, map, Option, Some, None}
+use Rattle.std.specs.Prelude.{ℕ, ◌+◌, ℤ, Bool, true, false, not, ◌&&◌, pos, List, [], ◌∷◌, ◌++◌, map, Option, Some, None}
 use Rattle.mdr_core.specs.declared.code.BinOp.{BinOp}
 use Rattle.mdr_core.specs.declared.code.BinOp.TheVariants.{Add, Sub}
 use Rattle.mdr_core.specs.declared.code.CallForm.{CallForm}
@@ -10,6 +10,7 @@ use Rattle.mdr_core.specs.declared.code.Expr.{Expr}
 use Rattle.mdr_core.specs.declared.code.Expr.TheVariants as expr
 use Rattle.mdr_core.specs.declared.code.Lval.{Lval}
 use Rattle.mdr_core.specs.declared.code.Lval.TheVariants as lval
+use Rattle.mdr_core.specs.declared.code.RelOp.TheVariants.{Eq}
 use Rattle.mdr_core.specs.declared.code.Step.{Step}
 use Rattle.mdr_core.specs.declared.code.Step.TheVariants as step
 use Rattle.mdr_core.specs.declared.code.Stmt.{Stmt}
@@ -19,16 +20,18 @@ use Rattle.mdr_core.specs.declared.program.Local.{Local}
 use Rattle.mdr_core.specs.declared.types.Ty.{Ty, out-Ty}
 use Rattle.mdr_core.specs.declared.types.Ty.TheOpen.{Ty-F}
 use Rattle.mdr_core.specs.declared.types.Ty.TheVariants as type
+use Rattle.mdr_core.specs.declared.value.Value.{Value}
 use Rattle.mdr_core.specs.declared.value.Value.TheVariants as value
 use Rattle.mdr_core.specs.Conversions.{promoted}
 use Rattle.mdr_core.specs.Kinds.{is_same_kind}
 use Rattle.mdr_core.specs.Layout.{chosen}
 use Rattle.mdr_rich.specs.declared.code.CallForm.{CallForm as RichCallForm}
+use Rattle.mdr_rich.specs.declared.code.Clause.{Clause as RichClause}
 use Rattle.mdr_rich.specs.declared.code.Expr.{Expr as RichExpr}
 use Rattle.mdr_rich.specs.declared.code.Lval.{Lval as RichLval}
 use Rattle.mdr_rich.specs.declared.code.Step.{Step as RichStep}
-use Rattle.mdr_rich.specs.declared.code.Step.TheOpen.{Step-F, Stmt-F}
-use Rattle.mdr_rich.specs.declared.code.Step.TheFolds.{fold-Step, fold-Stmt}
+use Rattle.mdr_rich.specs.declared.code.Step.TheOpen.{Step-F, Clause-F, Stmt-F}
+use Rattle.mdr_rich.specs.declared.code.Step.TheFolds.{fold-Step, fold-Clause, fold-Stmt}
 use Rattle.mdr_rich.specs.declared.code.Stmt.{Stmt as RichStmt}
 use Rattle.mdr_rich.specs.Activity.{is_active, is_active_place, are_active, is_settled}
 use Rattle.mdr_rich.specs.Carried.{type_of, type_at}
@@ -287,14 +290,57 @@ abbrev pub counted_by : (number : ℕ) → (front init : Work) → Work × Optio
 counted_by n w a x next body = counted n w a x.1 (within x.0 next) (within (within x.0 next) body)
 
 -- an active test in the body, behind the step
-abbrev pub counted_in : (number : ℕ) → (front init : Work) → RichExpr → (next : Work) → (body : List (Work → Work)) → Work
-counted_in n w a e b body = counted n w a None b (turn n (expr_lowered n e (inside b)) body)
+abbrev pub counted_in : (number : ℕ) → (front init : Work) → Term → (next : Work) → (body : List (Work → Work)) → Work
+counted_in n w a e b body = counted n w a None b (turn n (low n e (inside b)) body)
+
+abbrev pub counted_while : (number : ℕ) → (front init : Work) → Term → (next body : List (Work → Work)) → Work
+counted_while n w a e next body = chosen (is_active e) (counted_in n w a e (within a next) body) (counted_by n w a (mapped Some (low n e (inside a))) next body)
 
 abbrev pub for_lowered : (number : ℕ) → (front init : Work) → Option RichExpr → (next body : List (Work → Work)) → Work
 for_lowered n w a None next body = counted_by n w a (a, None) next body
-for_lowered n w a (Some e) next body = chosen (is_active (term_of e)) (counted_in n w a e (within a next) body) (counted_by n w a (mapped Some (expr_lowered n e (inside a))) next body)
+for_lowered n w a (Some e) next body = counted_while n w a (term_of e) next body
 
-abbrev pub step_layer : Step-F (ℕ → Work → Work) (Work → Work) → ℕ → Work → Work
+-- ---- `do` (C99 6.8.5.2): a `for` whose new slot is 1 in front of the first turn and 0 behind each
+
+abbrev pub flagged : (number slot : ℕ) → ℤ → Work → Work
+flagged n i x w = put n (step.Assign (lval.Slot i) (expr.Lit (value.Int S32 x))) w
+
+abbrev pub again : (slot : ℕ) → Term → Term
+again i e = Term.Or (Term.Load (Lvalue.Slot i (type.Int S32))) e
+
+abbrev pub done_while : (number slot : ℕ) → Term → (body : List (Work → Work)) → Work → Work
+done_while n i e body w = counted_while n w (flagged n i (pos 1) (inside w)) (again i e) (flagged n i (pos 0) ∷ []) body
+
+abbrev pub do_lowered : (number : ℕ) → RichExpr → (body : List (Work → Work)) → Work → Work
+do_lowered n e body w = done_while n w.next (term_of e) body (with_slot (type.Int S32) w)
+
+-- ---- `switch` (C99 6.8.4.2): its value is kept in a new slot, and tried with the labels of each clause
+
+abbrev pub is_label : (slot : ℕ) → Value → Expr
+is_label i v = expr.Rel Eq (slot_value i) (expr.Lit v)
+
+-- or it is one of these
+abbrev pub or_label : (slot : ℕ) → Expr → List Value → Expr
+or_label i e [] = e
+or_label i e (v ∷ vs) = or_label i (expr.Or e (is_label i v)) vs
+
+abbrev pub is_labelled : (slot : ℕ) → List Value → Expr
+is_labelled i [] = expr.Lit (value.Int S32 (pos 0))
+is_labelled i (v ∷ vs) = or_label i (is_label i v) vs
+
+-- a clause: its labels, and what follows them
+abbrev pub Branch : Type 0
+Branch = List Value × List (Work → Work)
+
+-- each clause stands in the `else` of the one before it, and behind the last one stands what `default` does, as a block
+abbrev pub tried : (number slot : ℕ) → List Branch → (default : List (Work → Work)) → Work → Work
+tried n i [] body w = blocked 0 w (within w body)
+tried n i (c ∷ cs) body w = branched n (w, is_labelled i c.0) c.1 (tried n i cs body ∷ [])
+
+abbrev pub switch_lowered : (number : ℕ) → RichExpr → List Branch → (default : List (Work → Work)) → Work → Work
+switch_lowered n e cs body w = tried n (expr_lowered n e w).0.next cs body (kept n (type_of (term_of e)) (expr_lowered n e w)).0
+
+abbrev pub step_layer : Step-F (ℕ → Work → Work) Branch (Work → Work) → ℕ → Work → Work
 step_layer (Step-F.Declare i) n w = put n (step.Declare i) w
 step_layer (Step-F.Text i text) n w = put n (step.Text i text) w
 step_layer (Step-F.Assign p e) n w = done n (assigned n p e w)
@@ -302,6 +348,8 @@ step_layer (Step-F.Call target form) n w = done n (call_made n target form w)
 step_layer (Step-F.If e one other) n w = branched n (expr_lowered n e w) one other
 step_layer (Step-F.While e body) n w = while_lowered n e body w
 step_layer (Step-F.For init test next body) n w = for_lowered n w (within w init) test next body
+step_layer (Step-F.Do body e) n w = do_lowered n e body w
+step_layer (Step-F.Switch e clauses body) n w = switch_lowered n e clauses body w
 step_layer (Step-F.Return e) n w = done n (mapped step.Return (perhaps_lowered n e w))
 step_layer (Step-F.ReturnCall form) n w = done n (mapped step.ReturnCall (call_lowered n form w))
 step_layer Step-F.Break n w = put n step.Break w
@@ -309,14 +357,20 @@ step_layer Step-F.Continue n w = put n step.Continue w
 step_layer Step-F.Empty n w = put n step.Empty w
 step_layer (Step-F.Block body) n w = blocked n w (within w body)
 
-abbrev pub stmt_layer : Stmt-F (ℕ → Work → Work) (Work → Work) → Work → Work
+abbrev pub clause_layer : Clause-F (ℕ → Work → Work) Branch (Work → Work) → Branch
+clause_layer c = (c.labels, c.body)
+
+abbrev pub stmt_layer : Stmt-F (ℕ → Work → Work) Branch (Work → Work) → Work → Work
 stmt_layer s = s.step s.number
 
 abbrev pub step_lowered : RichStep → ℕ → Work → Work
-step_lowered = fold-Step (ℕ → Work → Work) (Work → Work) step_layer stmt_layer
+step_lowered = fold-Step (ℕ → Work → Work) Branch (Work → Work) step_layer clause_layer stmt_layer
+
+abbrev pub clause_lowered : RichClause → Branch
+clause_lowered = fold-Clause (ℕ → Work → Work) Branch (Work → Work) step_layer clause_layer stmt_layer
 
 abbrev pub stmt_lowered : RichStmt → Work → Work
-stmt_lowered = fold-Stmt (ℕ → Work → Work) (Work → Work) step_layer stmt_layer
+stmt_lowered = fold-Stmt (ℕ → Work → Work) Branch (Work → Work) step_layer clause_layer stmt_layer
 
 -- the statements of a body, where the first new slot has this number
 abbrev pub lowered : (next : ℕ) → List RichStmt → Work

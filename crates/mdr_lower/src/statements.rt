@@ -287,6 +287,8 @@ fn put_step(alloc: Global, s: &Step, number: u32, work: &mut Work) -> Result<(),
                 }
             }
         }
+        Step::Do(_, _) => Err(AllocError),
+        Step::Switch(_, _, _) => Err(AllocError),
         Step::Return(value) => returned(alloc, number, value, work),
         Step::ReturnCall(form) => returned_call(alloc, number, form, work),
         Step::Break => put(number, plain::Step::Break, work),
