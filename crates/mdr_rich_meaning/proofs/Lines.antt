@@ -25,7 +25,7 @@ use Rattle.mdr_meaning.specs.declared.wire.Wire.{Wire}
 use Rattle.mdr_meaning.specs.declared.wire.Wire.TheVariants as wire
 use Rattle.mdr_meaning.specs.Calls.{keep, put as put_at, received}
 use Rattle.mdr_meaning.specs.Expressions.{given, slot_of}
-use Rattle.mdr_meaning.specs.Lives.{ends, in_block}
+use Rattle.mdr_meaning.specs.Lives.{in_block}
 use Rattle.mdr_meaning.specs.Named.{named_type}
 use Rattle.mdr_meaning.specs.Sides.{Flow, Ends, Breaks, Continues, Returns, Go, Locals, Next, flow_of, in_here}
 use Rattle.mdr_meaning.specs.Statements.{characters, declared, leaves, on_ends, texts}

@@ -229,11 +229,11 @@ module _ (b : Both) where
       (λ y. ways r t1 u1 sees1 ready1 (λ r1 t2 u2 sees2 near2 ready2. h r1 t2 u2 sees2 (near_then N b.all near1 (near_fewer N b.all first near2)) ready2) (is_true y)))
       ∙ sym (if_step n x.1 a.code d.code (with u1 born) K))
       ∙ sym (stmts_both code (stmt n (step.If x.1 a.code d.code) ∷ []) K (with u born)) where
-    ways : (r : Ready Wire) (t1 u1 : List Wire) → Sees N b.all t1 u1 → IsReady N b.all Wire x.0.next u1 r (V x.1)
-        → ((r1 : Ready Wire) (t2 u2 : List Wire) → Sees N b.all t2 u2 → Near N b.all i u1 u2 → IsReady N b.all Wire d.next u2 r1 (V (slot_value i)) → k r1 t2 ≡ K Ends (with u2 born))
-        → (c : Bool) → chosen c (one r) (other r) t1 k ≡ in_block (side b) (there b) (chosen c (S a.code) (S d.code)) (with u1 born) (on_ends (S []) K)
-    ways r t1 u1 sees1 ready1 h true = left r t1 u1 c f sees1 ready1 k (ends (side b) (there b) born (on_ends (S []) K)) h
-    ways r t1 u1 sees1 ready1 h false = right r t1 u1 c f sees1 ready1 k (ends (side b) (there b) born (on_ends (S []) K)) h
+        ways : (r : Ready Wire) (t1 u1 : List Wire) → Sees N b.all t1 u1 → IsReady N b.all Wire x.0.next u1 r (V x.1)
+            → ((r1 : Ready Wire) (t2 u2 : List Wire) → Sees N b.all t2 u2 → Near N b.all i u1 u2 → IsReady N b.all Wire d.next u2 r1 (V (slot_value i)) → k r1 t2 ≡ K Ends (with u2 born))
+            → (c : Bool) → chosen c (one r) (other r) t1 k ≡ in_block (side b) (there b) (chosen c (S a.code) (S d.code)) (with u1 born) (on_ends (S []) K)
+        ways r t1 u1 sees1 ready1 h true = left r t1 u1 c f sees1 ready1 k (ends (side b) (there b) born (on_ends (S []) K)) h
+        ways r t1 u1 sees1 ready1 h false = right r t1 u1 c f sees1 ready1 k (ends (side b) (there b) born (on_ends (S []) K)) h
 
   pub goes_armed : (n i : ℕ) (p : Prep Wire) (w : Work) (x : Work × Expr) (one other : Ready Wire → Prep Wire) (a d : Work) → w.next ≤ i → Goes Wire p w x.0 (V x.1)
       → (Fits N b.all d → Fits N b.all x.0) → (IsCounted N b.all x.0 → IsCounted N b.all d) → x.0.next ≤ d.next → Way i x.1 x.0 d one a.code → Way i x.1 x.0 d other d.code

@@ -31,7 +31,7 @@ use Rattle.mdr_rich_meaning.proofs.Flows.{Nexts, Runs, Same, SameWhere, See, inn
 use Rattle.mdr_rich_meaning.proofs.Forms.{G, begins_disjoined, disjoined_counted, literal_valued, ready_or}
 use Rattle.mdr_rich_meaning.proofs.Preparing.{Begins, Both, N, S, Ticks, V, if_step, into_step, one_stmt, ready_slot, rich_side, side, stmts_both, there}
 use Rattle.mdr_rich_meaning.proofs.Quiet.{inactive_same, nothing_more}
-use Rattle.mdr_rich_meaning.proofs.Slots.{with, Fits, IsCounted, IsReady, answered, get_here, sees_new, slot_after, slot_back, slot_before, slot_counted, slot_less}
+use Rattle.mdr_rich_meaning.proofs.Slots.{with, Fits, IsCounted, IsReady, answered, get_here, sees_new, slot_after, slot_back, slot_counted, slot_less}
 
 -- what the flag of a `do` holds, and the step of its loop
 abbrev pub flag_wire : (first : Bool) → Wire

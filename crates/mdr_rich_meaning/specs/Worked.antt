@@ -1,16 +1,17 @@
 -- for proofs
 -- Statements worked out: how many ticks each takes, in the function 0, with `u32 a, b; u32 arr[4]; u32 g1(void){return 1;}`, of which all is 0 at first; and whole functions.
-use Rattle.std.specs.Prelude.{◌≡◌, ℕ, zero, suc, Bool, true, false, List, [], ◌∷◌, map, Option, Some, None, pos}
+use Rattle.std.specs.Prelude.{◌≡◌, ℕ, zero, suc, Bool, true, false, List, [], ◌∷◌, ◌++◌, map, Option, Some, None, pos}
 use Rattle.mdr_core.specs.declared.code.BinOp.TheVariants.{Add, Sub}
 use Rattle.mdr_core.specs.declared.code.RelOp.TheVariants.{Gt, Lt}
 use Rattle.mdr_core.specs.declared.kind.Kind.TheVariants.{U32}
+use Rattle.mdr_core.specs.declared.stop.StopKind.TheVariants as stop
 use Rattle.mdr_core.specs.declared.types.Ty.TheVariants as type
 use Rattle.mdr_core.specs.declared.value.Value.TheVariants as value
 use Rattle.mdr_core.specs.declared.program.Program.{Program}
 use Rattle.mdr_core.specs.Code.{Way}
 use Rattle.mdr_meaning.specs.declared.wire.Wire.{Wire}
 use Rattle.mdr_meaning.specs.declared.wire.Wire.TheVariants as wire
-use Rattle.mdr_meaning.specs.Small.{mem, Ran, ran, Ended, run, small_number}
+use Rattle.mdr_meaning.specs.Small.{mem, Ran, ran, Ended, Stopped, run, small_number}
 use Rattle.mdr_meaning.specs.Tree.{Tree}
 use Rattle.mdr_meaning.specs.Worked.{global, global_array, param, u32, w32, with_globals}
 use Rattle.mdr_rich.specs.Code.{Term, Lvalue, Called, Terms, Goal, Code, Codes, Clauses}
@@ -245,3 +246,42 @@ looping = record {
 -- 1, 18 and 24
 abbrev pub LoopsAreRight : Type 0
 LoopsAreRight = whole_run decrements looping ≡ ran (Ended wire.NoValue) (mem (both_hold 2 22) [] 43 [])
+
+-- ---- a value is read again where it is used
+
+-- u32 *p; u32 del(void){kfree(p); return 0;} u32 id(u32 *q, u32 n){return n;}: the object of p is block 4
+abbrev pub pointer : Term
+pointer = Term.Load (Lvalue.Global 3 (type.Ptr u32))
+
+abbrev pub deletes : RichBody
+deletes = record { slots = []; result = u32; code = code_list (Code.Call 1 Goal.Nowhere (record { callee = Called.Service 3; args = Term.ToVoid pointer ∷ []; shape = None; format = None }) ∷ Code.Return 2 (Some (number 0)) ∷ []) }
+
+abbrev pub second_of : RichBody
+second_of = record { slots = param (type.Ptr u32) ∷ param u32 ∷ []; result = u32; code = code_list (Code.Return 1 (Some (Term.Load (Lvalue.Slot 1 u32))) ∷ []) }
+
+-- a = id(p, del()) + 1;
+abbrev pub deleting : RichBody
+deleting = record {
+  slots = [];
+  result = type.Void;
+  code = code_list (gives (add (Term.Call u32 (Called.Direct 2) (Terms.Then pointer (Terms.Then (Term.Call u32 (Called.Direct 1) Terms.End None None) Terms.End)) None None) (number 1)) ∷ []);
+}
+
+abbrev pub three_of : (first second third : RichBody) → ℕ → Option RichBody
+three_of x y z zero = Some x
+three_of x y z (suc zero) = Some y
+three_of x y z (suc (suc zero)) = Some z
+three_of x y z (suc (suc (suc f))) = None
+
+abbrev pub with_pointer : Program
+with_pointer = with_globals (global u32 ∷ global u32 ∷ global_array u32 4 ∷ global (type.Ptr u32) ∷ [])
+
+abbrev pub pointed : List (List Wire)
+pointed = (wire.Ptr (record { serial = 4; first = 0; ty = 4; count = 1; index = 0 }) ∷ []) ∷ (w32 9 ∷ []) ∷ []
+
+abbrev pub deleted : Ran
+deleted = run with_pointer (rich_started (record { known = record { program = with_pointer; number = small_number }; own = three_of deleting deletes second_of; asks = false }) 20 0 [] 0 Tree.Idle) (mem (cells 0 0 ++ pointed) [] 0 [])
+
+-- p is taken at the first tick, and del takes three; at the fifth, of the call of id, its object is dead
+abbrev pub KeptValuesAreRead : Type 0
+KeptValuesAreRead = deleted ≡ ran (Stopped stop.Dead (record { func = 0; stmt = 1 })) (mem (cells 0 0 ++ pointed) ((4 ∷ []) ∷ []) 5 (3 ∷ []))
