@@ -1,6 +1,6 @@
 // The clauses of a `switch`, and the statement of them (C99 6.8.4.2).
 
-ghost use Rattle.std.specs.Prelude.{◌≡◌, ◌∷◌, ◌++◌, [], true, false, Bool, IfOk, List};
+ghost use Rattle.std.specs.Prelude.{◌≡◌, ◌∷◌, ◌++◌, [], true, false, IfOk, List};
 ghost use Rattle.mdr_rich.specs.declared.code.Step.{Step};
 ghost use Rattle.mdr_rich.specs.declared.code.Stmt.{Stmt};
 ghost use Rattle.mdr_core.specs.Conversions.{promoted};
@@ -206,7 +206,7 @@ fn tried_clauses(
     labels: Items<Value>,
     body: Items<Stmt>,
 ) -> Result<Items<Clause>, AllocError>
-    ensures { (d : Bool) → IfOk result (λ cs. cs ≡ tried ++ tried_clause (record { is_default = d; labels = labels; body = body }) ∷ []) }
+    ensures { IfOk result (λ cs. cs ≡ tried ++ tried_clause (record { is_default = false; labels = labels; body = body }) ∷ []) }
 {
     let mut all = tried;
     all.push(Clause { labels, body })?;
