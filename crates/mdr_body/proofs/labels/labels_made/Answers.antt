@@ -6,9 +6,9 @@ use Rattle.mdr_body.proofs.labels.labels_made.Goals as goal
 
 pub loop-l-preserved : goal.loop-l-preserved
 loop-l-preserved c = (
-    one_label c.args.scope.now c.args.names.now c.args.kind c.loop-l.seen c.note.new.seen c.label_made.result c.args.labels.now c.loop-l.l-index c.l-item.result c.loop-l.all _ _ c.loop-l-test.true c.l-item.is c.label_made.ensures c.in_ok-note.ensures c.in_ok-all.ensures c.loop-l.invariant.0,
-    one_behind_label c.args.scope.now c.args.names.now c.args.kind c.loop-l.seen c.note.new.seen _ c.label_made.result c.args.labels.now c.loop-l.l-index c.l-item.result c.loop-l-test.true c.l-item.is c.label_made.ensures c.in_ok-note.ensures c.loop-l.invariant.1,
-  )
+  one_label c.args.scope.now c.args.names.now c.args.kind c.loop-l.seen c.note.new.seen c.label_made.result c.args.labels.now c.loop-l.l-index c.l-item.result c.loop-l.all _ _ c.loop-l-test.true c.l-item.is c.label_made.ensures c.in_ok-note.ensures c.in_ok-all.ensures c.loop-l.invariant.0,
+  one_behind_label c.args.scope.now c.args.names.now c.args.kind c.loop-l.seen c.note.new.seen _ c.label_made.result c.args.labels.now c.loop-l.l-index c.l-item.result c.loop-l-test.true c.l-item.is c.label_made.ensures c.in_ok-note.ensures c.loop-l.invariant.1,
+)
 
 pub returns-clause-grown : goal.returns-clause-grown
 unfolding labels_behind
