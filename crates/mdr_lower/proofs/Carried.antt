@@ -1,17 +1,20 @@
 -- What isn't a literal has the type that it carries, and that is a scalar type.
-use Rattle.std.proofs.Common.{◌≡◌, ℕ, Bool, true, false, nat_lt, List, length, IsTrue, refl, sym, ap, subst, ◌∙◌}
+use Rattle.std.proofs.Common.{◌≡◌, ℕ, Bool, true, false, nat_lt, List, ◌∷◌, length, map, IsTrue, refl, sym, ap, subst, ◌∙◌}
 use Rattle.mdr_core.specs.declared.kind.Kind.{Kind}
 use Rattle.mdr_core.specs.declared.kind.Kind.TheVariants.{S32, S64}
+use Rattle.mdr_core.specs.declared.program.Param.{Param}
 use Rattle.mdr_core.specs.declared.program.Program.{Program}
 use Rattle.mdr_core.specs.declared.types.Ty.{Ty, out-Ty}
 use Rattle.mdr_core.specs.declared.types.Ty.TheFolds.{map-Ty}
 use Rattle.mdr_core.specs.declared.types.Ty.TheOpen.{Ty-F}
 use Rattle.mdr_core.specs.declared.types.Ty.TheVariants as type
+use Rattle.mdr_core.specs.declared.value.Value.{Value}
+use Rattle.mdr_core.specs.declared.value.Value.TheVariants as value
 use Rattle.mdr_core.specs.Layout.{chosen}
-use Rattle.mdr_core.specs.Types.{Sort, Wrong, Aggregate, Scalar, is_scalar, is_scalar_by, sort_of, sort_layer}
-use Rattle.mdr_core.specs.Typing.{Slot, Extent, One, Many, int, ptr, void_ptr}
+use Rattle.mdr_core.specs.Types.{Sort, Wrong, Aggregate, Scalar, is_pointer, is_pointer_by, is_scalar, is_scalar_by, sort_of, sort_layer}
+use Rattle.mdr_core.specs.Typing.{Slot, Extent, One, Many, int, ptr, void_ptr, Literal}
 use Rattle.mdr_core.proofs.Laid.{sort_is}
-use Rattle.mdr_rich.specs.Carried.{target_by, target_of, type_of, type_at}
+use Rattle.mdr_rich.specs.Carried.{literal_type, target_by, target_of, type_of, type_at}
 use Rattle.mdr_rich.specs.Code.{Term, Lvalue}
 use Rattle.mdr_rich.specs.Typing.{type_in, IsScalar, IsNoLiteral, Has, Designates}
 use Rattle.mdr_lower.specs.Lowering.{keeps}
@@ -51,6 +54,12 @@ pub not_literal : (later : Bool) (e : Term) → keeps later e ≡ true → IsNoL
 not_literal true (Term.Lit v) q = absurd cc
 not_literal false (Term.Lit v) q = absurd cc
 not_literal later e q = tt
+
+no_pointer_by : (l : Ty-F Ty) (k : Kind) → l ≡ Ty-F.Int k → IsTrue (is_pointer_by l) → ⊥
+no_pointer_by l k e h = let q : false ≡ true = ap is_pointer_by (sym e) ∙ h in absurd cc
+
+no_pointer : (k : Kind) → IsTrue (is_pointer (int k)) → ⊥
+no_pointer k h = no_pointer_by (out-Ty (int k)) k (type.outs-Int k) h
 
 module _ (program : Program) (slots : List Slot) where
   mutual
@@ -103,3 +112,18 @@ module _ (program : Program) (slots : List Slot) where
   has_scalar (Term.Cond u c a b) t free h = subst (IsScalar program) (sym h.is) h.formed
   has_scalar (Term.Call u f args shape format) t free h = subst (IsScalar program) (sym h.is) h.formed
   has_scalar (Term.Bump u up first p) t free h = subst (IsScalar program) (sym h.is) h.formed
+
+  -- ---- integers carry their type, literals too
+
+  literal_is : (v : Value) (k : Kind) → Literal program v (int k) → literal_type v ≡ int k
+  literal_is (value.Int l n) k h = sym h.0
+  literal_is value.Null k h = absurd (no_pointer k h)
+  literal_is (value.Ptr v) k h = absurd h
+  literal_is value.Dead k h = absurd h
+  literal_is (value.Fn f) k h = absurd (no_pointer k (ap is_pointer h.2 ∙ ap is_pointer_by (type.outs-Fun (h.0.result ∷ map (λ (p : Param). p.ty) h.0.params))))
+  literal_is (value.Lock s) k h = absurd h
+  literal_is value.NoValue k h = absurd h
+
+  pub integer_is : (e : Term) (k : Kind) → Has program slots e (int k) → type_of e ≡ int k
+  integer_is (Term.Lit v) k h = literal_is v k h
+  integer_is e k h = type_is e (int k) tt h

@@ -10,7 +10,7 @@ use Rattle.mdr_core.specs.Layout.{chosen}
 use Rattle.mdr_rich.specs.Activity.{is_active}
 use Rattle.mdr_rich.specs.Code.{Term}
 use Rattle.mdr_lower.specs.declared.work.Work.{Work}
-use Rattle.mdr_lower.specs.Apart.{apart}
+use Rattle.mdr_lower.specs.Apart.{apart, either}
 use Rattle.mdr_lower.specs.Lowering.{arm, conjoined, disjoined, inside, kept, low, mapped, put, slot_value, truth, two}
 
 module _ (n : ℕ) (a b : Term) (w : Work) where
@@ -35,16 +35,21 @@ module _ (n : ℕ) (a b : Term) (w : Work) where
       (λ i. expr.And (made i) (told i)) ∙ (λ i. expr.And (low n a w).1 (low n b (behind i)).1)
       ∙ sym (ap (λ t. (chosen t (conjoined n (low n a w) (low n b)) (two expr.And (low n a w) (low n b))).1) idle)
 
-  pub or_left : (w1 w2 w3 w4 : Work) (left : Expr) (slot : ℕ) (other : List Stmt) → left ≡ (low n a w).1 → w1 ≡ (low n a w).0 → is_active b ≡ true → slot ≡ w1.next → w2 ≡ left_kept w1 left
-      → other ≡ (right_arm slot w2).1 → w3 ≡ (right_arm slot w2).0 → w4 ≡ put n (step.If (slot_value slot) [] other) w3 → w4 ≡ (low n (Term.Or a b) w).0
-  or_left w1 w2 w3 w4 left slot other made behind active at second told grown e =
-      e ∙ (λ i. put n (step.If (slot_value slot) [] (told i)) (grown i))
-      ∙ (λ i. put n (step.If (slot_value slot) [] (right_arm slot (second i)).1) (right_arm slot (second i)).0)
-      ∙ (λ i. put n (step.If (slot_value (at i)) [] (right_arm (at i) (left_kept w1 left)).1) (right_arm (at i) (left_kept w1 left)).0)
-      ∙ (λ i. put n (step.If (slot_value (behind i).next) [] (right_arm (behind i).next (left_kept (behind i) (made i))).1) (right_arm (behind i).next (left_kept (behind i) (made i))).0)
-      ∙ sym (ap (λ t. (chosen t (disjoined n (low n a w) (low n b)) (two expr.Or (low n a w) (low n b))).0) active)
+-- `||` behind its left side
+module _ (n : ℕ) (b : Term) where
+  abbrev other_arm : (slot : ℕ) → Work → Work × List Stmt
+  other_arm slot v = apart v (arm n slot (mapped truth (low n b (inside v))))
 
-  pub or_told : (w1 : Work) (left right : Expr) → left ≡ (low n a w).1 → w1 ≡ (low n a w).0 → is_active b ≡ false → right ≡ (low n b w1).1 → expr.Or left right ≡ (low n (Term.Or a b) w).1
-  or_told w1 left right made behind idle told =
-      (λ i. expr.Or (made i) (told i)) ∙ (λ i. expr.Or (low n a w).1 (low n b (behind i)).1)
-      ∙ sym (ap (λ t. (chosen t (disjoined n (low n a w) (low n b)) (two expr.Or (low n a w) (low n b))).1) idle)
+  abbrev first_kept : Work → Expr → Work
+  first_kept v e = (kept n (type.Int S32) (v, truth e)).0
+
+  pub either_left : (w1 w2 w3 w4 : Work) (left : Expr) (slot : ℕ) (other : List Stmt) → is_active b ≡ true → slot ≡ w1.next → w2 ≡ first_kept w1 left
+      → other ≡ (other_arm slot w2).1 → w3 ≡ (other_arm slot w2).0 → w4 ≡ put n (step.If (slot_value slot) [] other) w3 → w4 ≡ (either n (w1, left) b).0
+  either_left w1 w2 w3 w4 left slot other active at second told grown e =
+      e ∙ (λ i. put n (step.If (slot_value slot) [] (told i)) (grown i))
+      ∙ (λ i. put n (step.If (slot_value slot) [] (other_arm slot (second i)).1) (other_arm slot (second i)).0)
+      ∙ (λ i. put n (step.If (slot_value (at i)) [] (other_arm (at i) (first_kept w1 left)).1) (other_arm (at i) (first_kept w1 left)).0)
+      ∙ sym (ap (λ t. (chosen t (disjoined n (w1, left) (low n b)) (two expr.Or (w1, left) (low n b))).0) active)
+
+  pub either_told : (w1 : Work) (left right : Expr) → is_active b ≡ false → right ≡ (low n b w1).1 → expr.Or left right ≡ (either n (w1, left) b).1
+  either_told w1 left right idle told = ap (expr.Or left) told ∙ sym (ap (λ t. (chosen t (disjoined n (w1, left) (low n b)) (two expr.Or (w1, left) (low n b))).1) idle)

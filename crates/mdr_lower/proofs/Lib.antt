@@ -3,3 +3,4 @@ pub mod Stepped
 pub mod Typed
 pub mod CallArms
 pub mod Connected
+pub mod Chained

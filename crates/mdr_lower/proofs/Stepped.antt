@@ -40,6 +40,10 @@ one_in_range S16 = refl
 one_in_range S32 = refl
 one_in_range S64 = refl
 
+pub zero_in_range : IsTrue (is_in_range S32 (pos 0))
+unfolding is_in_range
+zero_in_range = refl
+
 module _ (program : Program) (all : List Slot) where
   abbrev V : Ty → Expr → Type 0
   V t e = Has program all (term_of e) t

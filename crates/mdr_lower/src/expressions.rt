@@ -6,7 +6,7 @@ ghost use Rattle.mdr_core.specs.declared.code.Expr.TheVariants as expr;
 ghost use Rattle.mdr_rich.specs.Carried.{type_of, type_at};
 ghost use Rattle.mdr_rich.specs.Code.{Term, term_list};
 ghost use Rattle.mdr_rich.specs.Folds.{term_of, lvalue_of};
-ghost use Rattle.mdr_lower.specs.Apart.{apart, two_lowered};
+ghost use Rattle.mdr_lower.specs.Apart.{apart, either, two_lowered};
 ghost use Rattle.mdr_lower.specs.Lowering.{mapped, part, keeps, kept, arm, inside, truth, low, low_place, low_args};
 
 use crate::forms::{direct, service, through};
@@ -299,7 +299,30 @@ fn conjoined(
     }
 }
 
-/// The same of `||`.
+/// `||` behind its left side, with an active right side as a choice.
+#[cycle(lowering)]
+pub fn either(
+    alloc: Global,
+    number: u32,
+    left: Boxed<plain::Expr>,
+    b: &Expr,
+    work: &mut Work,
+) -> Result<plain::Expr, AllocError>
+    ensures told { IfOk result (λ x. x ≡ (either number (work.old, left) (term_of b.now)).1) }
+    ensures grown { OnOk result (work.new ≡ (either number (work.old, left) (term_of b.now)).0) }
+{
+    if is_active(b) {
+        let slot = truth_kept(alloc, number, left, work)?;
+        let other = truth_apart(alloc, number, b, slot, work)?;
+        branched(number, slot_value(slot), Items::new(alloc), other, work)?;
+        Ok(slot_value(slot))
+    } else {
+        let right = boxed(alloc, number, b, work)?;
+        Ok(plain::Expr::Or(left, right))
+    }
+}
+
+/// `||`.
 #[cycle(lowering)]
 fn disjoined(
     alloc: Global,
@@ -312,15 +335,7 @@ fn disjoined(
     ensures grown { OnOk result (work.new ≡ (low number (Term.Or (term_of a.now) (term_of b.now)) work.old).0) }
 {
     let left = boxed(alloc, number, a, work)?;
-    if is_active(b) {
-        let slot = truth_kept(alloc, number, left, work)?;
-        let other = truth_apart(alloc, number, b, slot, work)?;
-        branched(number, slot_value(slot), Items::new(alloc), other, work)?;
-        Ok(slot_value(slot))
-    } else {
-        let right = boxed(alloc, number, b, work)?;
-        Ok(plain::Expr::Or(left, right))
-    }
+    either(alloc, number, left, b, work)
 }
 
 /// `c ? a : b`.

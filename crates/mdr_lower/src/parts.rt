@@ -70,7 +70,8 @@ pub fn keeps(later: bool, e: &Expr) -> bool
     later && !is_settled(e)
 }
 
-fn part_kept(
+/// The value of a part, which is kept.
+pub fn part_kept(
     alloc: Global,
     number: u32,
     e: &Expr,

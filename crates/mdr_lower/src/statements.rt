@@ -1,18 +1,24 @@
 // Statements, lowered.
 
-ghost use Rattle.std.specs.Prelude.{◌≡◌, [], ◌∷◌, map, IfOk, OnOk};
+ghost use Rattle.std.specs.Prelude.{◌≡◌, [], map, IfOk, OnOk};
 ghost use Rattle.mdr_core.specs.declared.code.Step.TheVariants as step;
-ghost use Rattle.mdr_lower.specs.Apart.{apart, value_apart};
-ghost use Rattle.mdr_lower.specs.Lowering.{stmt, put, done, mapped, inside, within, run, expr_lowered, place_lowered, target_lowered, perhaps_lowered, assigned, call_made, call_lowered, always, tested, turn, step_lowered, stmt_lowered, lowered};
+ghost use Rattle.mdr_rich.specs.Carried.{type_of};
+ghost use Rattle.mdr_rich.specs.Folds.{term_of};
+ghost use Rattle.mdr_lower.specs.Apart.{apart, arm, arms, outside};
+ghost use Rattle.mdr_lower.specs.Lowering.{put, done, mapped, inside, kept, within, run, low, expr_lowered, place_lowered, target_lowered, perhaps_lowered, assigned, call_made, call_lowered, again, blocked, turn, done_while, step_lowered, clause_lowered, stmt_lowered, lowered};
 
+use crate::arms::{Arm, labelled, put_arms};
 use crate::calls::lowered_call;
 use crate::expressions::{boxed, low, low_part, low_place};
+use crate::nesting::{DEEPEST, nests};
+use crate::parts::part_kept;
 use crate::release::{left_over, let_go};
-use crate::work::{Work, begun, put, put_back, set_aside};
+use crate::turns::{again_apart, always, put_for, test_apart, tested, tested_again};
+use crate::work::{Work, begun, put, put_back, set_aside, with_slot};
 use mdr_core as plain;
-use mdr_core::{Boxed, Items, Kind, Value};
+use mdr_core::{Items, Kind, Ty};
 use mdr_faults::copied;
-use mdr_rich::{CallForm, Expr, Lval, Step, Stmt, is_active, is_active_place};
+use mdr_rich::{CallForm, Clause, Expr, Lval, Step, Stmt, is_active, is_active_place};
 use std::alloc::{AllocError, Global};
 
 // ---- statements with no statement inside
@@ -127,56 +133,15 @@ fn returned_call(
     put(number, plain::Step::ReturnCall(form), work)
 }
 
-// ---- tests of loops
-
-fn always() -> plain::Expr
-    ensures { result ≡ always }
+/// A value is kept, and its slot's number is given.
+fn kept_value(alloc: Global, number: u32, value: &Expr, work: &mut Work) -> Result<u32, AllocError>
+    ensures told { IfOk result (λ i. i ≡ (expr_lowered number value.now work.old).0.next) }
+    ensures grown { OnOk result (work.new ≡ (kept number (type_of (term_of value.now)) (expr_lowered number value.now work.old)).0) }
 {
-    plain::Expr::Lit(Value::Int(Kind::S32, 1))
-}
-
-fn one_break(alloc: Global, number: u32) -> Result<Items<plain::Stmt>, AllocError>
-    ensures { IfOk result (λ ss. ss ≡ stmt number step.Break ∷ []) }
-{
-    let mut all = Items::new(alloc);
-    all.push(plain::Stmt {
-        number,
-        step: plain::Step::Break,
-    })?;
-    Ok(all)
-}
-
-/// A test that stands in a loop's body: the loop is left where it fails.
-fn tested(alloc: Global, number: u32, test: &Expr, work: &mut Work) -> Result<(), AllocError>
-    ensures { OnOk result (work.new ≡ tested number (expr_lowered number test.now work.old)) }
-{
-    let other = one_break(alloc, number)?;
-    let test = low(alloc, number, test, work)?;
-    put(
-        number,
-        plain::Step::If(test, Items::new(alloc), other),
-        work,
-    )
-}
-
-/// The test of a `for`, in front of its step.
-fn test_apart(
-    alloc: Global,
-    number: u32,
-    test: &Expr,
-    work: &mut Work,
-) -> Result<Boxed<plain::Expr>, AllocError>
-    ensures told { IfOk result (λ e. e ≡ (value_apart work.old (expr_lowered number test.now (inside work.old))).1) }
-    ensures grown { OnOk result (work.new ≡ (value_apart work.old (expr_lowered number test.now (inside work.old))).0) }
-{
-    let front = set_aside(alloc, work);
-    match boxed(alloc, number, test, work) {
-        Ok(value) => {
-            let_go(put_back(front, work));
-            Ok(value)
-        }
-        Err(error) => left_over(error, front),
-    }
+    let lowered = low(alloc, number, value, work)?;
+    let slot = work.next;
+    let_go(part_kept(alloc, number, value, lowered, work)?);
+    Ok(slot)
 }
 
 // ---- statements with those inside
@@ -198,6 +163,15 @@ fn list_apart(
     }
 }
 
+/// A block.
+#[cycle(statements)]
+fn put_block(alloc: Global, body: &[Stmt], number: u32, work: &mut Work) -> Result<(), AllocError>
+    ensures { OnOk result (work.new ≡ blocked number work.old (within work.old (map stmt_lowered body.now))) }
+{
+    let body = list_apart(alloc, body, work)?;
+    put(number, plain::Step::Block(body), work)
+}
+
 /// A test and a body.
 #[cycle(statements)]
 fn put_turn(
@@ -210,8 +184,7 @@ fn put_turn(
     ensures { OnOk result (work.new ≡ turn number (expr_lowered number test.now work.old) (map stmt_lowered body.now)) }
 {
     tested(alloc, number, test, work)?;
-    let body = list_apart(alloc, body, work)?;
-    put(0, plain::Step::Block(body), work)
+    put_block(alloc, body, 0, work)
 }
 
 /// The same inside another statement.
@@ -231,6 +204,92 @@ fn turn_apart(
         Ok(()) => Ok(put_back(front, work)),
         Err(error) => left_over(error, front),
     }
+}
+
+/// The test and the body of a `do`.
+#[cycle(statements)]
+fn put_again(
+    alloc: Global,
+    body: &[Stmt],
+    number: u32,
+    slot: u32,
+    test: &Expr,
+    work: &mut Work,
+) -> Result<(), AllocError>
+    ensures { OnOk result (work.new ≡ turn number (low number (again slot (term_of test.now)) work.old) (map stmt_lowered body.now)) }
+{
+    tested_again(alloc, number, slot, test, work)?;
+    put_block(alloc, body, 0, work)
+}
+
+/// The same inside another statement.
+#[cycle(statements)]
+fn turns_apart(
+    alloc: Global,
+    body: &[Stmt],
+    number: u32,
+    slot: u32,
+    test: &Expr,
+    work: &mut Work,
+) -> Result<Items<plain::Stmt>, AllocError>
+    ensures told { IfOk result (λ ss. ss ≡ (apart work.old (turn number (low number (again slot (term_of test.now)) (inside work.old)) (map stmt_lowered body.now))).1) }
+    ensures grown { OnOk result (work.new ≡ (apart work.old (turn number (low number (again slot (term_of test.now)) (inside work.old)) (map stmt_lowered body.now))).0) }
+{
+    let front = set_aside(alloc, work);
+    match put_again(alloc, body, number, slot, test, work) {
+        Ok(()) => Ok(put_back(front, work)),
+        Err(error) => left_over(error, front),
+    }
+}
+
+/// A `do`, behind the slot that tells its first turn.
+#[cycle(statements)]
+fn put_do(
+    alloc: Global,
+    body: &[Stmt],
+    number: u32,
+    slot: u32,
+    test: &Expr,
+    work: &mut Work,
+) -> Result<(), AllocError>
+    ensures { OnOk result (work.new ≡ done_while number slot (term_of test.now) (map stmt_lowered body.now) work.old) }
+{
+    if is_active(test) {
+        let body = turns_apart(alloc, body, number, slot, test, work)?;
+        put_for(alloc, number, slot, None, body, work)
+    } else {
+        let test = again_apart(alloc, number, slot, test, work)?;
+        let body = list_apart(alloc, body, work)?;
+        put_for(alloc, number, slot, Some(test.into_inner()), body, work)
+    }
+}
+
+/// A clause, for the value in the slot.
+#[cycle(statements)]
+fn arm_apart(alloc: Global, clause: &Clause, slot: u32, work: &mut Work) -> Result<Arm, AllocError>
+    ensures told { IfOk result (λ a. a ≡ arm slot (clause_lowered clause.now) work.old) }
+    ensures grown { OnOk result (work.new ≡ outside work.old.code (within work.old (clause_lowered clause.now).1)) }
+{
+    let body = list_apart(alloc, clause.body.as_slice(), work)?;
+    labelled(alloc, slot, clause.labels.as_slice(), body)
+}
+
+/// The clauses of a `switch`, for the value in the slot.
+#[cycle(statements)]
+fn arms_apart(
+    alloc: Global,
+    clauses: &[Clause],
+    slot: u32,
+    work: &mut Work,
+) -> Result<Items<Arm>, AllocError>
+    ensures told { IfOk result (λ a. a ≡ (arms slot (map clause_lowered clauses.now) [] work.old).1) }
+    ensures grown { OnOk result (work.new ≡ (arms slot (map clause_lowered clauses.now) [] work.old).0) }
+{
+    let mut all = Items::new(alloc);
+    for clause in clauses {
+        all.push(arm_apart(alloc, clause, slot, work)?)?;
+    }
+    Ok(all)
 }
 
 #[cycle(statements)]
@@ -287,17 +346,22 @@ fn put_step(alloc: Global, s: &Step, number: u32, work: &mut Work) -> Result<(),
                 }
             }
         }
-        Step::Do(_, _) => Err(AllocError),
-        Step::Switch(_, _, _) => Err(AllocError),
+        Step::Do(body, test) => {
+            let slot = with_slot(alloc, Ty::Int(Kind::S32), work)?;
+            put_do(alloc, body.as_slice(), number, slot, test, work)
+        }
+        Step::Switch(value, clauses, default) => {
+            let slot = kept_value(alloc, number, value, work)?;
+            let arms = arms_apart(alloc, clauses.as_slice(), slot, work)?;
+            let default = list_apart(alloc, default.as_slice(), work)?;
+            put_arms(alloc, number, arms, default, work)
+        }
         Step::Return(value) => returned(alloc, number, value, work),
         Step::ReturnCall(form) => returned_call(alloc, number, form, work),
         Step::Break => put(number, plain::Step::Break, work),
         Step::Continue => put(number, plain::Step::Continue, work),
         Step::Empty => put(number, plain::Step::Empty, work),
-        Step::Block(body) => {
-            let body = list_apart(alloc, body.as_slice(), work)?;
-            put(number, plain::Step::Block(body), work)
-        }
+        Step::Block(body) => put_block(alloc, body.as_slice(), number, work),
     }
 }
 
@@ -322,6 +386,9 @@ fn put_list(alloc: Global, statements: &[Stmt], work: &mut Work) -> Result<(), A
 pub fn lowered(alloc: Global, next: u32, statements: &[Stmt]) -> Result<Work, AllocError>
     ensures { IfOk result (λ w. w ≡ lowered next statements.now) }
 {
+    if !nests(statements, DEEPEST) {
+        return Err(AllocError);
+    }
     let mut work = begun(alloc, next);
     match put_list(alloc, statements, &mut work) {
         Ok(()) => Ok(work),

@@ -7,7 +7,7 @@ use Rattle.mdr_rich.specs.Code.{term_list}
 use Rattle.mdr_rich.specs.Folds.{term_of}
 use Rattle.mdr_lower.specs.Lowering.{called, keeps, low, part, put}
 use Rattle.mdr_lower.proofs.CallArms.{direct_grown, given, service_grown, through_grown}
-use Rattle.mdr_lower.proofs.Connected.{and_left, and_told, or_left, or_told}
+use Rattle.mdr_lower.proofs.Connected.{and_left, and_told, either_left, either_told}
 use Rattle.mdr_lower.proofs.expressions.+lowering.Goals as goal
 
 then_ok : {A E : Type 0} {P Q : Type 0} (r : Result A E) → (P → Q) → OnOk r P → OnOk r Q
@@ -25,16 +25,15 @@ conjoined-returns-in_ok-right-clause-told t c =
     and_told c.args.number (term_of c.args.a.now) (term_of c.args.b.now) c.args.work.now c.boxed.new.work c.in_ok-left.left c.in_ok-right.right
     c.in_ok-left.ensures.told c.in_ok-left.ensures.grown (sym c.is_active.ensures ∙ c.if-is_active.false) c.in_ok-right.ensures.told
 
-pub disjoined-returns-in_ok-branched-clause-grown : goal.disjoined-returns-in_ok-branched-clause-grown
-disjoined-returns-in_ok-branched-clause-grown t c =
-    or_left c.args.number (term_of c.args.a.now) (term_of c.args.b.now) c.args.work.now c.boxed.new.work c.truth_kept.new.work c.truth_apart.new.work c.branched.new.work c.in_ok-left.left c.in_ok-slot.slot c.in_ok-other.other
-    c.in_ok-left.ensures.told c.in_ok-left.ensures.grown (sym c.is_active.ensures ∙ c.if-is_active.true) c.in_ok-slot.ensures.told c.in_ok-slot.ensures.grown c.in_ok-other.ensures.told c.in_ok-other.ensures.grown
+pub either-returns-in_ok-branched-clause-grown : goal.either-returns-in_ok-branched-clause-grown
+either-returns-in_ok-branched-clause-grown t c =
+    either_left c.args.number (term_of c.args.b.now) c.args.work.now c.truth_kept.new.work c.truth_apart.new.work c.branched.new.work c.args.left c.in_ok-slot.slot c.in_ok-other.other
+    (sym c.is_active.ensures ∙ c.if-is_active.true) c.in_ok-slot.ensures.told c.in_ok-slot.ensures.grown c.in_ok-other.ensures.told c.in_ok-other.ensures.grown
     (c.in_ok-branched.ensures ∙ (λ i. put c.args.number (step.If (c.slot_value.ensures i) (c.new.ensures i) c.in_ok-other.other) c.truth_apart.new.work))
 
-pub disjoined-returns-in_ok-right-clause-told : goal.disjoined-returns-in_ok-right-clause-told
-disjoined-returns-in_ok-right-clause-told t c =
-    or_told c.args.number (term_of c.args.a.now) (term_of c.args.b.now) c.args.work.now c.boxed.new.work c.in_ok-left.left c.in_ok-right.right
-    c.in_ok-left.ensures.told c.in_ok-left.ensures.grown (sym c.is_active.ensures ∙ c.if-is_active.false) c.in_ok-right.ensures.told
+pub either-returns-in_ok-right-clause-told : goal.either-returns-in_ok-right-clause-told
+either-returns-in_ok-right-clause-told t c =
+    either_told c.args.number (term_of c.args.b.now) c.args.work.now c.args.left c.in_ok-right.right (sym c.is_active.ensures ∙ c.if-is_active.false) c.in_ok-right.ensures.told
 
 pub low-returns-in_ok-args-in-CallDirect-clause-grown : goal.low-returns-in_ok-args-in-CallDirect-clause-grown
 low-returns-in_ok-args-in-CallDirect-clause-grown t c =
