@@ -1,5 +1,5 @@
 -- The labels and the clauses of a `switch`, one behind the other.
-use Rattle.std.proofs.Common.{ℕ, ◌≡◌, ◌==◌, ◌<◌, ◌+◌, Bool, true, false, List, [], ◌∷◌, ◌++◌, drop, length, get_or, refl, ap, append_assoc, Result}
+use Rattle.std.proofs.Common.{ℕ, ◌≡◌, ◌==◌, ◌<◌, ◌+◌, arith, ne_eqb, Bool, true, false, List, [], ◌∷◌, ◌++◌, drop, length, get_or, refl, ap, append_assoc, Result}
 use Rattle.std.proofs.Math.Path.{sym, ◌∙◌}
 use Rattle.std.proofs.lemmas.List.{at_drop_more}
 use Rattle.mdr_core.specs.declared.kind.Kind.{Kind}
@@ -30,17 +30,13 @@ use Rattle.mdr_body.proofs.Gathering.{one_list, one_state}
 
 -- ---- where a list ends
 
-pub last_jumps : (jumps : Jumps) (xs : List Node) → (length xs == 0) ≡ true → jumps ≡ jumps_before jumps (lines_of xs)
-last_jumps jumps [] e = refl
-last_jumps jumps (x ∷ xs) e = absurd cc
-
 pub other_jumps : (jumps : Jumps) (xs : List Node) → (length xs == 0) ≡ false → inner_jumps jumps ≡ jumps_before jumps (lines_of xs)
 other_jumps jumps [] e = absurd cc
 other_jumps jumps (x ∷ xs) e = refl
 
 pub none_behind : (xs : List Clause) → (length xs == 0) ≡ is_last (clauses_of xs)
 none_behind [] = refl
-none_behind (x ∷ xs) = refl
+none_behind (x ∷ xs) = ne_eqb (length (x ∷ xs)) 0 (λ e. omega (arith, e))
 
 -- ---- labels
 
@@ -60,11 +56,11 @@ in_front : (k : Kind) (x : CaseLabel) (vs : List Value) → with_case k x [] ++ 
 in_front k (label.Number n) vs = refl
 in_front k label.Default vs = refl
 
-pub one_case : (k : Kind) (xs : List CaseLabel) (i : ℕ) (x : CaseLabel) (vs vs1 w : List Value) → i < length xs → x ≡ get_or xs i x → vs1 ≡ vs ++ with_case k x [] → vs ++ cases k (drop i xs) ≡ w → vs1 ++ cases k (drop (i + 1) xs) ≡ w
-one_case k xs i x vs vs1 w inside is grown so_far =
+pub one_case : (k : Kind) (xs : List CaseLabel) (i : ℕ) (x : CaseLabel) (vs vs1 w : List Value) → i < length xs → vs1 ≡ vs ++ with_case k (get_or xs i x) [] → vs ++ cases k (drop i xs) ≡ w → vs1 ++ cases k (drop (i + 1) xs) ≡ w
+one_case k xs i x vs vs1 w inside grown so_far =
     ap (λ us. us ++ cases k (drop (i + 1) xs)) grown
-    ∙ append_assoc vs (with_case k x []) (cases k (drop (i + 1) xs))
-    ∙ ap (λ us. vs ++ us) (in_front k x (cases k (drop (i + 1) xs)) ∙ ap (λ (y : CaseLabel). cases k (y ∷ drop (i + 1) xs)) is ∙ sym (at_drop_more (cases k) xs i x inside))
+    ∙ append_assoc vs (with_case k (get_or xs i x) []) (cases k (drop (i + 1) xs))
+    ∙ ap (λ us. vs ++ us) (in_front k (get_or xs i x) (cases k (drop (i + 1) xs)) ∙ sym (at_drop_more (cases k) xs i x inside))
     ∙ so_far
 
 -- ---- clauses

@@ -7,6 +7,7 @@ use Rattle.mdr_body.specs.declared.here.Here.{Here}
 use Rattle.mdr_body.specs.Statements.{lines_behind, line_made}
 use Rattle.mdr_body.proofs.Apart.{made_simple, behind_made_simple, told_same, grown_same}
 use Rattle.mdr_body.proofs.Gathering.{one_line, one_behind_line}
+use Rattle.mdr_body.proofs.Switching.{one_clause, one_behind_clause}
 use Rattle.mdr_body.proofs.statement.+line.Goals as goal
 
 pub lines-loop-i-preserved : goal.lines-loop-i-preserved
@@ -28,3 +29,9 @@ pub if_half-returns-in-Ok-clause-told : goal.if_half-returns-in-Ok-clause-told
 if_half-returns-in-Ok-clause-told g t c =
     c.paired.ensures _ _ c.in_ok-head.ensures.told
     (c.in-Ok.ensures.told ∙ ap (λ (h : Here). told (line_made (g.R.Typing.rules c.args.rules.now) c.args.scope.now c.args.frame.now c.args.jumps true h false (line_of c.args.one.now))) c.in_ok-head.ensures.grown)
+
+pub clauses_made-loop-i-preserved : goal.clauses_made-loop-i-preserved
+clauses_made-loop-i-preserved g t c = record {
+  told = one_clause (g.R.Typing.rules c.args.rules.now) c.args.scope.now c.args.frame.now c.args.jumps c.loop-i.here c.clause.new.here c.args.at c.loop-i.seen c.clause.new.seen c.args.clauses.now c.loop-i.i c.index-clauses-i.result c.is_last_at.result _ c.loop-i.all _ _ c.loop-i-test.true c.index-clauses-i.is c.is_last_at.ensures c.in_ok-made.ensures.grown c.in_ok-made.ensures.seen c.in_ok-made.ensures.told c.in_ok-all.ensures c.loop-i.invariant.told;
+  grown = one_behind_clause c.args.scope.now c.args.frame.now c.loop-i.here c.clause.new.here _ c.args.clauses.now c.loop-i.i c.index-clauses-i.result c.loop-i-test.true c.index-clauses-i.is c.in_ok-made.ensures.grown c.loop-i.invariant.grown;
+}
