@@ -1,4 +1,4 @@
-"""Places in a driver's source: words, statements by their numbers, and forms that aren't built yet.
+"""Places in a driver's source: words, statements by their numbers, and what isn't built yet.
 
 It reads the tokens of a source, and of its functions as much as numbers of statements need. It judges nothing: what it
 says of a source that the program refuses is a guess."""
@@ -168,11 +168,10 @@ def functions(tokens):
 # ---- bodies
 
 class Body:
-    """The statements of a body in the order of their numbers: `places` has the tokens at which they begin, `forms` the
-    expressions in them: whether a call may stand there alone, and their first and last tokens."""
+    """The statements of a body in the order of their numbers: `places` has the tokens at which they begin."""
 
     def __init__(self, tokens, n):
-        self.tokens, self.places, self.forms, self.waiting = tokens, [], [], []
+        self.tokens, self.places = tokens, []
         self.statement(n)
 
     def text(self, n):
@@ -189,16 +188,16 @@ class Body:
         text = self.text(n)
         if text == '{':
             return self.block(n)
+        if text in ('case', 'default'):
+            return self.statement(self.until(n, ':') + 1)
         if text in ('if', 'while', 'for', 'switch'):
             return self.headed(n)
         if text == 'do':
             return self.do(n)
         if text in TYPES | QUALIFIERS:
-            return self.local(n, True)
+            return self.local(n)
         self.places.append(n)
-        end = self.until(n, ';')
-        self.simple(n + (text == 'return'), end)
-        return end + 1
+        return self.until(n, ';') + 1
 
     def block(self, n):
         n += 1
@@ -209,35 +208,16 @@ class Body:
     def headed(self, n):
         """An `if`, a loop, or a `switch`."""
         self.places.append(n)
-        end = matching(self.tokens, n + 1)
-        if self.text(n) == 'for':
-            self.loop_head(n + 2, end)
-        else:
-            self.forms.append((False, n + 2, end))
-        if self.text(n) == 'switch':
-            self.waiting.append(n)
-        after = self.statement(end + 1)
+        after = self.statement(matching(self.tokens, n + 1) + 1)
         if self.text(n) == 'if' and self.text(after) == 'else':
             after = self.statement(after + 1)
         return after
 
-    def loop_head(self, n, end):
-        """What stands in a `for`'s parentheses; its parts have no numbers of their own."""
-        first = self.until(n, ';')
-        if self.text(n) in TYPES | QUALIFIERS:
-            self.local(n, False)
-        else:
-            self.simple(n, first)
-        second = self.until(first + 1, ';')
-        self.forms.append((False, first + 1, second))
-        self.simple(second + 1, end)
-
     def do(self, n):
         self.places.append(n)
-        self.waiting.append(n)
         return self.until(self.statement(n + 1), ';') + 1
 
-    def local(self, n, has_number):
+    def local(self, n):
         """A declaration, each declarator of which has a number."""
         while self.text(n) in TYPES | QUALIFIERS:
             n += 2 if self.text(n) == 'struct' else 1
@@ -245,22 +225,11 @@ class Body:
             name = n
             while self.text(name) in ('*', '('):
                 name += 1
-            if has_number:
-                self.places.append(name)
-            end = self.until(n, (';', ',', '='))
-            if self.text(end) == '=':
-                start, end = end + 1, self.until(end, (';', ','))
-                self.forms.append((True, start, end))
+            self.places.append(name)
+            end = self.until(n, (';', ','))
             if self.text(end) != ',':
                 return end + 1
             n = end + 1
-
-    def simple(self, n, end):
-        """An assignment or a call."""
-        at = self.until(n, ASSIGNING)
-        if at < end:
-            self.forms.append((False, n, at))
-        self.forms.append((at >= end or self.text(at) == '=', at + 1 if at < end else n, end))
 
 
 def statement(text, function, number):
@@ -273,53 +242,9 @@ def statement(text, function, number):
     return None
 
 
-# ---- forms that aren't built yet
-
-def is_call(tokens, n):
-    """Whether the parenthesis at n is that of a call."""
-    before = tokens[n - 1]
-    if before.text == ')':
-        k = n - 1
-        while k and matching(tokens, k) != n - 1:
-            k -= 1
-        return tokens[k + 1].text not in TYPES and tokens[k - 1].text not in CONTROL
-    return before.is_word and before.text not in CONTROL or before.text == ']'
-
-
-def own_call(tokens, first, end):
-    """The parenthesis of the call that a form is as a whole, or none."""
-    n = matching(tokens, first) + 1 if tokens[first].text == '(' else first + 1
-    if tokens[first].text == '(' and tokens[first + 1].text in TYPES:
-        return None
-    while n < end and tokens[n].text in ('.', '->', '['):
-        n = matching(tokens, n) + 1 if tokens[n].text == '[' else n + 2
-    return n if n < end and tokens[n].text == '(' and matching(tokens, n) == end - 1 else None
-
-
-def inner_calls(tokens, form):
-    """The parentheses of the calls that aren't built where they stand."""
-    alone, first, end = form
-    own = own_call(tokens, first, end) if alone and first < end else None
-    return [n for n in range(first, end) if tokens[n].text == '(' and n > first and n != own and is_call(tokens, n)]
-
-
-def unbuilt(tokens):
-    """The tokens of forms that aren't built yet, each with what it seems to be."""
-    for _, start in functions(tokens):
-        body = Body(tokens, start)
-        yield from ((n, f'"{tokens[n].text}" isn\'t built yet') for n in body.waiting)
-        for form in body.forms:
-            yield from ((n - 1, 'a call inside an expression, a condition or an argument isn\'t built yet: call it in a statement of its own before')
-                        for n in inner_calls(tokens, form))
-        for n in range(start, matching(tokens, start)):
-            if tokens[n].text in ('?', '++', '--'):
-                yield n, f'"{tokens[n].text}" isn\'t built yet' + ('' if tokens[n].text == '?' else f': write {tokens[n].text[0]}= 1 in a statement of its own')
-            elif tokens[n].text == 'kcall':
-                yield n, 'kcall isn\'t built yet'
-
+# ---- what isn't built yet
 
 def first_unbuilt(text):
     """The line and the column of the first form in a source that seems not to be built yet, and what it seems to be."""
-    tokens = tokens_of(text)
-    found = min(unbuilt(tokens), key=lambda it: tokens[it[0]].at, default=None)
-    return (*place_of(text, tokens[found[0]].at), found[1]) if found else None
+    found = next((it for it in tokens_of(text) if it.text == 'kcall'), None)
+    return (*place_of(text, found.at), 'kcall isn\'t built yet') if found else None

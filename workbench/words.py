@@ -53,9 +53,8 @@ SOURCE = {
         'This call has more or fewer arguments than it takes.',
         'Of printk: one for each directive of its text.'),
     'Unbuilt': (
-        'The source has a form that isn\'t built yet; for want of a place it is told at 1:1, before any fault of types.',
-        'Not built yet: "?:", "switch", "do", "++" and "--", a call inside an expression, a condition or an argument, or behind "+=" and its like, '
-        'and kcall. A call stands alone, behind "=" or behind "return".'),
+        'The source calls kcall, which isn\'t built yet; for want of a place that is told at 1:1, behind all faults of types.',
+        'The kernel half can\'t call back into the user half: let it return what the user half is to do next.'),
 }
 
 LEFT_OUT = {

@@ -87,9 +87,9 @@ class Runs(unittest.TestCase):
             self.assertIn(sentence, ' '.join(told.split()))
 
     def test_a_form_that_waits_is_found(self):
-        alone, told = self.explained('u32 a;\nvoid f(void) {\n\tswitch (a) { case 1: break; }\n}\n')
+        alone, told = self.explained('void (*h)(u32 a);\nvoid f(void) {\n\tkcall(h, 1);\n}\n')
         if 'Unbuilt' in alone.stdout:
-            self.assertIn('switch', told)
+            self.assertIn('kcall', told)
 
     def test_a_refused_script_has_its_line(self):
         _, told = self.explained('void f(u32 n) { }\n', 'call f 1\ncall f one\n')

@@ -2,3 +2,4 @@ pub mod Apart
 pub mod Closing
 mod Folds
 pub mod Gathering
+mod Switching

@@ -1,6 +1,6 @@
 -- believed
 -- A function's body: its parameters' places, its locals, its statements (C99 6.9.1).
-use Rattle.std.specs.Prelude.{Bool, false, List, map}
+use Rattle.std.specs.Prelude.{Bool, List, map}
 use Rattle.mdr_rich.specs.declared.code.Stmt.{Stmt}
 use Rattle.mdr_core.specs.declared.program.Local.{Local}
 use Rattle.mdr_syntax.specs.declared.tree.Head.{Head}
@@ -14,7 +14,7 @@ use Rattle.mdr_body.specs.declared.here.DeclaredLocal.{DeclaredLocal}
 use Rattle.mdr_body.specs.declared.here.Frame.{Frame}
 use Rattle.mdr_body.specs.declared.here.Here.{Here}
 use Rattle.mdr_body.specs.Locals.{struct_locks, parameter_taken, first_here}
-use Rattle.mdr_body.specs.Statements.{Rules, lines_made, lines_behind}
+use Rattle.mdr_body.specs.Statements.{Rules, no_jumps, lines_made, lines_behind}
 
 abbrev pub local_again : DeclaredLocal → Checked Local
 local_again d = again d.means
@@ -31,7 +31,7 @@ body_of objects locals ss = Right (record { objects = objects; locals = locals; 
 abbrev pub body_by : Rules → Scope → Frame → Here → (objects : List Bool) → Lines → Checked Body
 body_by rules scope frame here objects ls =
     both (declared_locals (lines_behind scope frame here ls).locals)
-    (lines_made rules scope frame false here ls)
+    (lines_made rules scope frame no_jumps here ls)
     (body_of objects)
 
 -- the outermost block. The scope is that behind the function's name

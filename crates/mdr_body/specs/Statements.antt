@@ -7,26 +7,38 @@ use Rattle.mdr_rich.specs.declared.code.Lval.TheVariants as lval
 use Rattle.mdr_rich.specs.declared.code.Step.{Step}
 use Rattle.mdr_rich.specs.declared.code.Step.TheVariants as step
 use Rattle.mdr_rich.specs.declared.code.Stmt.{Stmt}
+use Rattle.mdr_core.specs.declared.kind.Kind.{Kind}
 use Rattle.mdr_core.specs.declared.place.Place.{Place}
 use Rattle.mdr_core.specs.declared.types.Ty.{Ty}
 use Rattle.mdr_core.specs.Layout.{chosen}
 use Rattle.mdr_core.specs.Types.{is_scalar}
 use Rattle.mdr_syntax.specs.declared.tree.Decl.{Decl, out-Decl}
+use Rattle.mdr_syntax.specs.declared.tree.Label.{Label}
 use Rattle.mdr_faults.specs.declared.fault.FaultKind.TheVariants.{Mismatch}
 use Rattle.mdr_faults.specs.declared.scope.Object.{Object}
 use Rattle.mdr_faults.specs.declared.scope.Scope.{Scope}
 use Rattle.mdr_faults.specs.Declarations.{is_void}
-use Rattle.mdr_faults.specs.Faults.{Checked, Right, refuse, again, after, both}
+use Rattle.mdr_faults.specs.Faults.{Checked, Right, refuse, again, after, both, demand}
 use Rattle.mdr_headings.specs.Annotations.{is_character}
+use Rattle.mdr_operand.specs.declared.operand.Integer.{Integer}
 use Rattle.mdr_operand.specs.declared.operand.Operand.{Operand}
 use Rattle.mdr_operand.specs.declared.operand.Scalar.{Scalar}
 use Rattle.mdr_operand.specs.declared.room.LocalName.{LocalName}
 use Rattle.mdr_operand.specs.Forms.{scalar_at, expression_of}
-use Rattle.mdr_operand.specs.Written.{Written, Line, Lines}
+use Rattle.mdr_operand.specs.Written.{Written, Line, Lines, Clauses}
+use Rattle.mdr_body.specs.declared.clauses.MadeClause.{MadeClause}
+use Rattle.mdr_body.specs.declared.clauses.SortedClauses.{SortedClauses}
+use Rattle.mdr_body.specs.declared.here.Breaks.{Breaks}
+use Rattle.mdr_body.specs.declared.here.Breaks.TheVariants as break_of
 use Rattle.mdr_body.specs.declared.here.Frame.{Frame}
 use Rattle.mdr_body.specs.declared.here.Here.{Here}
+use Rattle.mdr_body.specs.declared.here.Jumps.{Jumps}
+use Rattle.mdr_body.specs.declared.here.Tested.{Tested}
+use Rattle.mdr_body.specs.declared.labels.CaseLabel.{CaseLabel}
 use Rattle.mdr_body.specs.Locals.{local_object, is_own_object, with_local, is_taken, entered, left, numbered}
 use Rattle.mdr_body.specs.Addresses.{perhaps_takes, takes_at, takes_along}
+use Rattle.mdr_body.specs.Labels.{labels_made, labels_behind}
+use Rattle.mdr_body.specs.Clauses.{switch_value, label_kind, clause_place, ends, is_last, made_clause, sorted, no_clauses}
 
 -- ---- what statements are made of
 
@@ -106,10 +118,45 @@ local_made rules scope frame here t d (Some w) = after (initial_step rules scope
 
 -- ---- jumps (6.8.6)
 
+-- outside loops and switches
+abbrev pub no_jumps : Jumps
+no_jumps = record { in_loop = false; breaks = break_of.Loop }
+
+-- in the body of a loop
+abbrev pub loop_jumps : Jumps
+loop_jumps = record { in_loop = true; breaks = break_of.Loop }
+
+-- in the statements of a clause
+abbrev pub clause_jumps : Jumps → Jumps
+clause_jumps jumps = record { in_loop = jumps.in_loop; breaks = break_of.Clause }
+
+-- the `break` of a clause stands at its end alone, and in no statement there
+abbrev pub not_at_end : Breaks → Breaks
+not_at_end break_of.Loop = break_of.Loop
+not_at_end break_of.Clause = break_of.Nothing
+not_at_end break_of.Nothing = break_of.Nothing
+
+abbrev pub inner_jumps : Jumps → Jumps
+inner_jumps jumps = record { in_loop = jumps.in_loop; breaks = not_at_end jumps.breaks }
+
+-- in a statement with others behind it
+abbrev pub jumps_before : Jumps → (rest : Lines) → Jumps
+jumps_before jumps Lines.End = jumps
+jumps_before jumps (Lines.Then l ls) = inner_jumps jumps
+
 -- `break` and `continue` stand in a loop (6.8.6.2, 6.8.6.3)
 abbrev pub jumped : Place → (in_loop : Bool) → Step → Checked Step
 jumped p true s = Right s
 jumped p false s = refuse p Mismatch
+
+-- `break` leaves the innermost loop or `switch` (6.8.6.3, paragraph 2). At the end of a clause it does nothing, since no clause goes on into another
+abbrev pub broken_by : ℕ → Place → (in_loop : Bool) → Breaks → Checked (List Stmt)
+broken_by n p in_loop break_of.Loop = stated n (jumped p in_loop step.Break)
+broken_by n p in_loop break_of.Clause = Right []
+broken_by n p in_loop break_of.Nothing = refuse p Mismatch
+
+unfoldable pub broken : ℕ → Place → Jumps → Checked (List Stmt)
+broken n p jumps = broken_by n p jumps.in_loop jumps.breaks
 
 -- without a value where the function gives none (6.8.6.4, paragraph 1)
 abbrev pub bare_return : Place → Ty → Checked Step
@@ -127,21 +174,21 @@ return_step rules scope frame here p e = after (again frame.result) (return_by r
 
 -- ---- statements without parts
 
--- of all others none stands where these do; `do` and `switch` aren't built
-abbrev pub simple_made : Rules → Scope → Frame → (in_loop : Bool) → Here → (is_taken : Bool) → Line → Checked (List Stmt)
-simple_made rules scope frame in_loop here t (Line.Empty p) = single here.number step.Empty
-simple_made rules scope frame in_loop here t (Line.Block p ls) = refuse p Mismatch
-simple_made rules scope frame in_loop here t (Line.Local p d init) = local_made rules scope frame here t d init
-simple_made rules scope frame in_loop here t (Line.Assign p at op a b) = stated here.number (rules.assigned scope here.names at op a b)
-simple_made rules scope frame in_loop here t (Line.Plain p w) = stated here.number (rules.called scope here.names w)
-simple_made rules scope frame in_loop here t (Line.If p e one other) = refuse p Mismatch
-simple_made rules scope frame in_loop here t (Line.While p e body) = refuse p Mismatch
-simple_made rules scope frame in_loop here t (Line.For p init test step body) = refuse p Mismatch
-simple_made rules scope frame in_loop here t (Line.Do p body e) = refuse p Mismatch
-simple_made rules scope frame in_loop here t (Line.Switch p e cs) = refuse p Mismatch
-simple_made rules scope frame in_loop here t (Line.Return p e) = stated here.number (return_step rules scope frame here p e)
-simple_made rules scope frame in_loop here t (Line.Break p) = stated here.number (jumped p in_loop step.Break)
-simple_made rules scope frame in_loop here t (Line.Continue p) = stated here.number (jumped p in_loop step.Continue)
+-- of all others none stands where these do
+abbrev pub simple_made : Rules → Scope → Frame → Jumps → Here → (is_taken : Bool) → Line → Checked (List Stmt)
+simple_made rules scope frame jumps here t (Line.Empty p) = single here.number step.Empty
+simple_made rules scope frame jumps here t (Line.Block p ls) = refuse p Mismatch
+simple_made rules scope frame jumps here t (Line.Local p d init) = local_made rules scope frame here t d init
+simple_made rules scope frame jumps here t (Line.Assign p at op a b) = stated here.number (rules.assigned scope here.names at op a b)
+simple_made rules scope frame jumps here t (Line.Plain p w) = stated here.number (rules.called scope here.names w)
+simple_made rules scope frame jumps here t (Line.If p e one other) = refuse p Mismatch
+simple_made rules scope frame jumps here t (Line.While p e body) = refuse p Mismatch
+simple_made rules scope frame jumps here t (Line.For p init test step body) = refuse p Mismatch
+simple_made rules scope frame jumps here t (Line.Do p body e) = refuse p Mismatch
+simple_made rules scope frame jumps here t (Line.Switch p e cs) = refuse p Mismatch
+simple_made rules scope frame jumps here t (Line.Return p e) = stated here.number (return_step rules scope frame here p e)
+simple_made rules scope frame jumps here t (Line.Break p) = broken here.number p jumps
+simple_made rules scope frame jumps here t (Line.Continue p) = stated here.number (jumped p jumps.in_loop step.Continue)
 
 -- behind one, but for its number
 abbrev pub simple_behind : Scope → Frame → Here → (is_taken : Bool) → Line → Here
@@ -168,7 +215,7 @@ head_taken l rest test step body = false
 unfoldable pub heads_made : Rules → Scope → Frame → Here → (test : Option Written) → (step : Lines) → (body : Line) → Lines → Checked (List Stmt)
 heads_made rules scope frame here test step body Lines.End = Right []
 heads_made rules scope frame here test step body (Lines.Then l ls) =
-    both (simple_made rules scope frame false here (head_taken l ls test step body) l)
+    both (simple_made rules scope frame no_jumps here (head_taken l ls test step body) l)
     (heads_made rules scope frame (simple_behind scope frame here (head_taken l ls test step body) l) test step body ls) appended
 
 unfoldable pub heads_behind : Scope → Frame → Here → (test : Option Written) → (step : Lines) → (body : Line) → Lines → Here
@@ -178,7 +225,7 @@ heads_behind scope frame here test step body (Lines.Then l ls) = heads_behind sc
 -- the last part: nothing, or a statement
 abbrev pub steps_made : Rules → Scope → Frame → Here → Lines → Checked (List Stmt)
 steps_made rules scope frame here Lines.End = Right []
-steps_made rules scope frame here (Lines.Then l ls) = simple_made rules scope frame false here false l
+steps_made rules scope frame here (Lines.Then l ls) = simple_made rules scope frame no_jumps here false l
 
 abbrev pub steps_behind : Scope → Frame → Here → Lines → Here
 steps_behind scope frame here Lines.End = here
@@ -215,6 +262,22 @@ while_of n e body = single n (step.While e body)
 abbrev pub for_of : ℕ → ForHead → List Stmt → Checked (List Stmt)
 for_of n head body = single n (step.For head.0.0 head.0.1 head.1 body)
 
+abbrev pub do_of : ℕ → List Stmt → Expr → Checked (List Stmt)
+do_of n body e = single n (step.Do body e)
+
+abbrev pub switch_by : ℕ → Expr → SortedClauses → Checked (List Stmt)
+switch_by n e cs = single n (step.Switch e cs.tried cs.fallback)
+
+abbrev pub switch_of : ℕ → Integer → List MadeClause → Checked (List Stmt)
+switch_of n v cs = switch_by n v.value (sorted no_clauses cs)
+
+-- the value that a `switch` tests
+unfoldable pub tested_value : Rules → Scope → Here → Place → Written → Checked Integer
+tested_value rules scope here p w = after (rules.typed scope here.names w) (switch_value p)
+
+abbrev pub tested_at : Place → Checked Integer → Tested
+tested_at p c = record { place = p; kind = label_kind c }
+
 -- what is known behind a statement, whatever is wrong in it: its locals are declared, and its numbers and slots are counted
 abbrev mutual
   pub line_behind : Scope → Frame → Here → (is_taken : Bool) → Line → Here
@@ -226,8 +289,8 @@ abbrev mutual
   line_behind scope frame here t (Line.If p e one other) = perhaps_behind scope frame (line_behind scope frame (numbered here) false one) other
   line_behind scope frame here t (Line.While p e body) = line_behind scope frame (numbered here) false body
   line_behind scope frame here t (Line.For p init test step body) = left here (line_behind scope frame (behind_head scope frame (entered here) init test step body) false body)
-  line_behind scope frame here t (Line.Do p body e) = numbered here
-  line_behind scope frame here t (Line.Switch p e cs) = numbered here
+  line_behind scope frame here t (Line.Do p body e) = line_behind scope frame (numbered here) false body
+  line_behind scope frame here t (Line.Switch p e cs) = clauses_behind scope frame (numbered here) cs
   line_behind scope frame here t (Line.Return p e) = numbered here
   line_behind scope frame here t (Line.Break p) = numbered here
   line_behind scope frame here t (Line.Continue p) = numbered here
@@ -240,34 +303,52 @@ abbrev mutual
   lines_behind scope frame here Lines.End = here
   lines_behind scope frame here (Lines.Then l ls) = lines_behind scope frame (line_behind scope frame here (is_taken l ls) l) ls
 
+  -- each clause is a block
+  pub clauses_behind : Scope → Frame → Here → Clauses → Here
+  clauses_behind scope frame here Clauses.NoPart = here
+  clauses_behind scope frame here (Clauses.Part labels ls cs) = clauses_behind scope frame (left here (lines_behind scope frame (entered here) ls)) cs
+
 -- each part of an `if` and of a loop is a block (6.8.4, paragraph 3; 6.8.5, paragraph 5)
 abbrev mutual
-  pub line_made : Rules → Scope → Frame → (in_loop is_part : Bool) → Here → (is_taken : Bool) → Line → Checked (List Stmt)
-  line_made rules scope frame in_loop is_part here t (Line.Empty p) = simple_made rules scope frame in_loop here t (Line.Empty p)
-  line_made rules scope frame in_loop is_part here t (Line.Block p ls) = as_part is_part (lines_made rules scope frame in_loop (entered here) ls)
-  line_made rules scope frame in_loop is_part here t (Line.Local p d init) = simple_made rules scope frame in_loop here t (Line.Local p d init)
-  line_made rules scope frame in_loop is_part here t (Line.Assign p at op a b) = simple_made rules scope frame in_loop here t (Line.Assign p at op a b)
-  line_made rules scope frame in_loop is_part here t (Line.Plain p w) = simple_made rules scope frame in_loop here t (Line.Plain p w)
-  line_made rules scope frame in_loop is_part here t (Line.If p e one other) =
-      both (both (condition rules scope here p e) (line_made rules scope frame in_loop true (numbered here) false one) pair)
-      (perhaps_made rules scope frame in_loop (line_behind scope frame (numbered here) false one) other) (if_of here.number)
-  line_made rules scope frame in_loop is_part here t (Line.While p e body) =
-      both (condition rules scope here p e) (line_made rules scope frame true true (numbered here) false body) (while_of here.number)
-  line_made rules scope frame in_loop is_part here t (Line.For p init test step body) =
+  pub line_made : Rules → Scope → Frame → Jumps → (is_part : Bool) → Here → (is_taken : Bool) → Line → Checked (List Stmt)
+  line_made rules scope frame jumps is_part here t (Line.Empty p) = simple_made rules scope frame jumps here t (Line.Empty p)
+  line_made rules scope frame jumps is_part here t (Line.Block p ls) = as_part is_part (lines_made rules scope frame (inner_jumps jumps) (entered here) ls)
+  line_made rules scope frame jumps is_part here t (Line.Local p d init) = simple_made rules scope frame jumps here t (Line.Local p d init)
+  line_made rules scope frame jumps is_part here t (Line.Assign p at op a b) = simple_made rules scope frame jumps here t (Line.Assign p at op a b)
+  line_made rules scope frame jumps is_part here t (Line.Plain p w) = simple_made rules scope frame jumps here t (Line.Plain p w)
+  line_made rules scope frame jumps is_part here t (Line.If p e one other) =
+      both (both (condition rules scope here p e) (line_made rules scope frame (inner_jumps jumps) true (numbered here) false one) pair)
+      (perhaps_made rules scope frame (inner_jumps jumps) (line_behind scope frame (numbered here) false one) other) (if_of here.number)
+  line_made rules scope frame jumps is_part here t (Line.While p e body) =
+      both (condition rules scope here p e) (line_made rules scope frame loop_jumps true (numbered here) false body) (while_of here.number)
+  line_made rules scope frame jumps is_part here t (Line.For p init test step body) =
       both (for_head rules scope frame (entered here) p init test step body)
-      (line_made rules scope frame true true (behind_head scope frame (entered here) init test step body) false body) (for_of here.number)
-  line_made rules scope frame in_loop is_part here t (Line.Do p body e) = simple_made rules scope frame in_loop here t (Line.Do p body e)
-  line_made rules scope frame in_loop is_part here t (Line.Switch p e cs) = simple_made rules scope frame in_loop here t (Line.Switch p e cs)
-  line_made rules scope frame in_loop is_part here t (Line.Return p e) = simple_made rules scope frame in_loop here t (Line.Return p e)
-  line_made rules scope frame in_loop is_part here t (Line.Break p) = simple_made rules scope frame in_loop here t (Line.Break p)
-  line_made rules scope frame in_loop is_part here t (Line.Continue p) = simple_made rules scope frame in_loop here t (Line.Continue p)
+      (line_made rules scope frame loop_jumps true (behind_head scope frame (entered here) init test step body) false body) (for_of here.number)
+  line_made rules scope frame jumps is_part here t (Line.Do p body e) =
+      both (line_made rules scope frame loop_jumps true (numbered here) false body)
+      (condition rules scope (line_behind scope frame (numbered here) false body) p e) (do_of here.number)
+  line_made rules scope frame jumps is_part here t (Line.Switch p e cs) =
+      both (tested_value rules scope here p e)
+      (clauses_made rules scope frame (clause_jumps jumps) (numbered here) (tested_at p (tested_value rules scope here p e)) [] cs) (switch_of here.number)
+  line_made rules scope frame jumps is_part here t (Line.Return p e) = simple_made rules scope frame jumps here t (Line.Return p e)
+  line_made rules scope frame jumps is_part here t (Line.Break p) = simple_made rules scope frame jumps here t (Line.Break p)
+  line_made rules scope frame jumps is_part here t (Line.Continue p) = simple_made rules scope frame jumps here t (Line.Continue p)
 
-  pub perhaps_made : Rules → Scope → Frame → (in_loop : Bool) → Here → Lines → Checked (List Stmt)
-  perhaps_made rules scope frame in_loop here Lines.End = Right []
-  perhaps_made rules scope frame in_loop here (Lines.Then l ls) = line_made rules scope frame in_loop true here false l
+  pub perhaps_made : Rules → Scope → Frame → Jumps → Here → Lines → Checked (List Stmt)
+  perhaps_made rules scope frame jumps here Lines.End = Right []
+  perhaps_made rules scope frame jumps here (Lines.Then l ls) = line_made rules scope frame jumps true here false l
 
-  pub lines_made : Rules → Scope → Frame → (in_loop : Bool) → Here → Lines → Checked (List Stmt)
-  lines_made rules scope frame in_loop here Lines.End = Right []
-  lines_made rules scope frame in_loop here (Lines.Then l ls) =
-      both (line_made rules scope frame in_loop false here (is_taken l ls) l)
-      (lines_made rules scope frame in_loop (line_behind scope frame here (is_taken l ls) l) ls) appended
+  pub lines_made : Rules → Scope → Frame → Jumps → Here → Lines → Checked (List Stmt)
+  lines_made rules scope frame jumps here Lines.End = Right []
+  lines_made rules scope frame jumps here (Lines.Then l ls) =
+      both (line_made rules scope frame (jumps_before jumps ls) false here (is_taken l ls) l)
+      (lines_made rules scope frame jumps (line_behind scope frame here (is_taken l ls) l) ls) appended
+
+  -- the clauses of a `switch`, behind the labels that were seen in it
+  pub clauses_made : Rules → Scope → Frame → Jumps → Here → Tested → (seen : List CaseLabel) → Clauses → Checked (List MadeClause)
+  clauses_made rules scope frame jumps here at seen Clauses.NoPart = Right []
+  clauses_made rules scope frame jumps here at seen (Clauses.Part labels ls cs) =
+      both
+      (both (labels_made scope here.names at.kind seen labels)
+      (demand (clause_place at.place labels) Mismatch (ends ls (is_last cs)) (lines_made rules scope frame jumps (entered here) ls)) (made_clause at.kind))
+      (clauses_made rules scope frame jumps (left here (lines_behind scope frame (entered here) ls)) at (labels_behind scope here.names at.kind seen labels) cs) appended

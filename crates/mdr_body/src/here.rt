@@ -1,6 +1,6 @@
 // What is known in front of a statement.
 
-use mdr_core::{Items, Local, Ty};
+use mdr_core::{Items, Kind, Local, Place, Ty};
 use mdr_faults::Fault;
 use mdr_operand::LocalName;
 
@@ -30,4 +30,30 @@ pub struct Here {
 pub struct Frame {
     pub locks: Items<bool>,
     pub result: Result<Ty, Fault>,
+}
+
+/// What a `break` leaves where it stands (C99 6.8.6.3).
+#[derive(Clone, Copy)]
+pub enum Breaks {
+    /// The loop around it, if there is one.
+    Loop,
+    /// The clause of a `switch` that it ends.
+    Clause,
+    /// It stands elsewhere in a clause, where it may not.
+    Nothing,
+}
+
+/// Which jumps may stand in a place (C99 6.8.6.2, 6.8.6.3).
+#[derive(Clone, Copy)]
+pub struct Jumps {
+    /// A loop is around it.
+    pub in_loop: bool,
+    pub breaks: Breaks,
+}
+
+/// What a `switch` tests: its place, and the kind of its value.
+#[derive(Clone, Copy)]
+pub struct Tested {
+    pub place: Place,
+    pub kind: Kind,
 }

@@ -2,7 +2,9 @@
 #![tactic(auto)]
 
 mod address;
+mod clauses;
 mod here;
+mod labels;
 mod locals;
 mod release;
 mod simple;
@@ -12,15 +14,17 @@ mod uses;
 mod whole;
 
 pub use address::{perhaps_takes, takes_along, takes_at, takes_in};
-pub use here::{DeclaredLocal, Frame, Here};
+pub use clauses::{MadeClause, SortedClauses, made_clause, switch_of, tested_value};
+pub use here::{Breaks, DeclaredLocal, Frame, Here, Jumps, Tested};
+pub use labels::{CaseLabel, cases, has_default, labels_made};
 pub use locals::{count, declare_local, first_here, leave, parameter_objects, struct_locks, takes};
 pub use simple::{
     assigned, broken, called, condition, continued, local_made, perhaps_condition, returned,
     simple_made, single, stated,
 };
 pub use statement::{
-    as_part, condition_counted, for_head, for_of, head_taken_in, if_of, lines, paired,
-    simple_counted, taken_at, while_of,
+    as_part, condition_counted, do_of, for_head, for_of, head_taken_in, if_of, lines, no_jumps,
+    paired, simple_counted, taken_at, while_of,
 };
 pub use typing::Typing;
 pub use uses::first_use;

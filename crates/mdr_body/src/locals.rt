@@ -187,7 +187,8 @@ fn local_whole(name: Name, is_taken: bool, o: Result<Object, Fault>) -> Result<L
     }
 }
 
-fn is_no_constant(names: &[LocalName], c: &Const) -> bool
+/// Whether it is the name of a parameter or a local, which is no constant.
+pub fn is_no_constant(names: &[LocalName], c: &Const) -> bool
     ensures { result ≡ is_no_constant names.now c.now }
 {
     match c {

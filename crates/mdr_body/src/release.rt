@@ -11,3 +11,10 @@ pub fn left_over<A: Drop, B: Drop>(error: OutOfMemory, _made: A) -> Result<B, Ou
 {
     Err(error)
 }
+
+/// What is new in place of what was made.
+pub fn replaced<A: Drop, B: Drop>(_old: A, new: B) -> B
+    ensures { result ≡ new }
+{
+    new
+}

@@ -14,9 +14,9 @@ ghost use Rattle.mdr_body.specs.Locals.{with_local, is_own_object, local_object}
 ghost use Rattle.mdr_body.specs.Addresses.{line_what};
 ghost use Rattle.mdr_body.specs.declared.here.Here.{Here};
 ghost use Rattle.mdr_body.specs.Simple.{declares};
-ghost use Rattle.mdr_body.specs.Statements.{stmt, stated, tested, condition, some, perhaps_condition, text_of, takes_text, is_single, own_place, initial_by, initial_step, declared_then, local_made, jumped, bare_return, value_return, return_by, return_step, simple_made, simple_behind};
+ghost use Rattle.mdr_body.specs.Statements.{stmt, stated, tested, condition, some, perhaps_condition, text_of, takes_text, is_single, own_place, initial_by, initial_step, declared_then, local_made, jumped, bare_return, value_return, return_by, return_step, broken, simple_made, simple_behind};
 
-use crate::here::{Frame, Here};
+use crate::here::{Breaks, Frame, Here, Jumps};
 use crate::locals::{declare_local, is_own_object, local_object};
 use crate::typing::Typing;
 use mdr_core::{Items, Name, OutOfMemory, Place, Ty};
@@ -298,8 +298,7 @@ pub fn local_made<R: Typing>(
 
 // ---- jumps
 
-/// A `break` at this place.
-pub fn broken(place: Place, in_loop: bool) -> Result<Step, Fault>
+fn loop_left(place: Place, in_loop: bool) -> Result<Step, Fault>
     ensures { result ≡ told (jumped place in_loop Step.Break) }
 {
     if in_loop {
@@ -444,18 +443,35 @@ fn jump(
     Ok(stated(alloc, number, step)?)
 }
 
+/// A `break` at this place.
+#[tactic(auto, unfolding(crate::specs::Statements::broken))]
+pub fn broken(
+    alloc: Global,
+    number: u32,
+    place: Place,
+    jumps: Jumps,
+) -> Result<Result<Items<Stmt>, Fault>, OutOfMemory>
+    ensures { IfOk result (λ r. r ≡ told (broken number place jumps)) }
+{
+    match jumps.breaks {
+        Breaks::Loop => jump(alloc, number, loop_left(place, jumps.in_loop)),
+        Breaks::Clause => Ok(Ok(Items::new(alloc))),
+        Breaks::Nothing => Ok(mismatch(place)),
+    }
+}
+
 /// A statement that declares nothing.
 fn plain_made<R: Typing>(
     alloc: Global,
     rules: &R,
     scope: &Scope,
     frame: &Frame,
-    in_loop: bool,
+    jumps: Jumps,
     here: &Here,
     place: Place,
     what: &NodeWhat,
 ) -> Result<Result<Items<Stmt>, Fault>, OutOfMemory>
-    ensures { (t : Bool) → declares (line_what what.now place) ≡ false → IfOk result (λ r. r ≡ told (simple_made (R.rules rules.now) scope.now frame.now in_loop here.now t (line_what what.now place))) }
+    ensures { (t : Bool) → declares (line_what what.now place) ≡ false → IfOk result (λ r. r ≡ told (simple_made (R.rules rules.now) scope.now frame.now jumps here.now t (line_what what.now place))) }
 {
     match what {
         NodeWhat::Empty => empty(alloc, here.number),
@@ -464,8 +480,8 @@ fn plain_made<R: Typing>(
         }
         NodeWhat::Plain(form) => called(alloc, rules, scope, here, form),
         NodeWhat::Return(form) => returned(alloc, rules, scope, frame, here, place, form),
-        NodeWhat::Break => jump(alloc, here.number, broken(place, in_loop)),
-        NodeWhat::Continue => jump(alloc, here.number, continued(place, in_loop)),
+        NodeWhat::Break => broken(alloc, here.number, place, jumps),
+        NodeWhat::Continue => jump(alloc, here.number, continued(place, jumps.in_loop)),
         NodeWhat::Local(_, _) => Ok(mismatch(place)),
         NodeWhat::Block(_) => Ok(mismatch(place)),
         NodeWhat::If(_, _, _) => Ok(mismatch(place)),
@@ -482,19 +498,19 @@ pub fn simple_made<R: Typing>(
     rules: &R,
     scope: &Scope,
     frame: &Frame,
-    in_loop: bool,
+    jumps: Jumps,
     here: &mut Here,
     is_taken: bool,
     place: Place,
     what: &NodeWhat,
 ) -> Result<Result<Items<Stmt>, Fault>, OutOfMemory>
-    ensures told { IfOk result (λ r. r ≡ told (simple_made (R.rules rules.now) scope.now frame.now in_loop here.old is_taken (line_what what.now place))) }
+    ensures told { IfOk result (λ r. r ≡ told (simple_made (R.rules rules.now) scope.now frame.now jumps here.old is_taken (line_what what.now place))) }
     ensures grown { OnOk result (here.new ≡ simple_behind scope.now frame.now here.old is_taken (line_what what.now place)) }
 {
     match what {
         NodeWhat::Local(d, init) => {
             local_made(alloc, rules, scope, frame, here, is_taken, d, init)
         }
-        _ => plain_made(alloc, rules, scope, frame, in_loop, here, place, what),
+        _ => plain_made(alloc, rules, scope, frame, jumps, here, place, what),
     }
 }

@@ -1,25 +1,34 @@
 // Statements with parts, and blocks (C99 6.8.2, 6.8.4, 6.8.5).
 
-ghost use Rattle.std.specs.Prelude.{◌≡◌, ◌||◌, ◌+◌, ◌<◌, IfOk, OnOk, List, drop, length, false, true};
+ghost use Rattle.std.specs.Prelude.{◌≡◌, ◌||◌, ◌+◌, ◌<◌, IfOk, OnOk, List, [], drop, length, false, true};
 ghost use Rattle.std.specs.Option.{option_map};
 ghost use Rattle.mdr_rich.specs.declared.code.Expr.{Expr};
 ghost use Rattle.mdr_rich.specs.declared.code.Stmt.{Stmt};
-ghost use Rattle.mdr_faults.specs.Faults.{Checked, told, both};
-ghost use Rattle.mdr_operand.specs.Written.{written_of, line_of, lines_of, perhaps};
+ghost use Rattle.mdr_faults.specs.declared.fault.FaultKind.TheVariants.{Mismatch};
+ghost use Rattle.mdr_faults.specs.Faults.{Checked, told, both, demand};
+ghost use Rattle.mdr_operand.specs.declared.operand.Integer.{Integer};
+ghost use Rattle.mdr_operand.specs.Written.{written_of, line_of, lines_of, clause_of, clauses_of, perhaps};
 ghost use Rattle.mdr_body.specs.Locals.{is_taken, entered, left, numbered};
 ghost use Rattle.mdr_body.specs.Addresses.{perhaps_takes, takes_at, takes_along, line_what};
-ghost use Rattle.mdr_body.specs.Statements.{condition, perhaps_condition, pair, taken_behind, head_taken, heads_made, heads_behind, steps_made, steps_behind, ForHead, for_head, behind_head, as_part, if_of, while_of, for_of, simple_made, simple_behind, line_behind, perhaps_behind, lines_behind, line_made, perhaps_made, lines_made};
+ghost use Rattle.mdr_body.specs.Labels.{labels_made, labels_behind};
+ghost use Rattle.mdr_body.specs.Clauses.{clause_place, ends, is_last, made_clause};
+ghost use Rattle.mdr_body.specs.Statements.{no_jumps, loop_jumps, clause_jumps, inner_jumps, jumps_before, condition, perhaps_condition, pair, taken_behind, head_taken, heads_made, heads_behind, steps_made, steps_behind, ForHead, for_head, behind_head, as_part, if_of, while_of, for_of, do_of, switch_of, tested_value, tested_at, simple_made, simple_behind, line_behind, perhaps_behind, lines_behind, line_made, perhaps_made, lines_made, clauses_behind, clauses_made};
 
 use crate::address::{perhaps_takes, perhaps_takes_at, takes_along, takes_at};
-use crate::here::{Frame, Here};
+use crate::clauses::{
+    MadeClause, clause_place, ends, label_kind, made_clause, switch_of, tested_value,
+};
+use crate::here::{Breaks, Frame, Here, Jumps, Tested};
+use crate::labels::{CaseLabel, labels_made};
 use crate::locals::{count, leave, takes};
 use crate::release::left_over;
 use crate::simple::{condition, perhaps_condition, simple_made, single};
 use crate::typing::Typing;
 use mdr_core::{Boxed, Items, Name, OutOfMemory, Place};
-use mdr_faults::{Fault, Scope, both, followed};
+use mdr_faults::{Fault, FaultKind, Scope, both, demanded, followed};
+use mdr_operand::Integer;
 use mdr_rich::{Expr, Step, Stmt};
-use mdr_syntax::{Form, Node, NodeWhat};
+use mdr_syntax::{Clause, Form, Label, Node, NodeWhat};
 use std::alloc::{AllocError, Global};
 
 // ---- whose addresses are taken
@@ -153,11 +162,19 @@ fn simple_node<R: Typing>(
     is_taken: bool,
     n: &Node,
 ) -> Result<Result<Items<Stmt>, Fault>, OutOfMemory>
-    ensures told { IfOk result (λ r. r ≡ told (simple_made (R.rules rules.now) scope.now frame.now false here.old is_taken (line_of n.now))) }
+    ensures told { IfOk result (λ r. r ≡ told (simple_made (R.rules rules.now) scope.now frame.now no_jumps here.old is_taken (line_of n.now))) }
     ensures grown { OnOk result (here.new ≡ simple_behind scope.now frame.now here.old is_taken (line_of n.now)) }
 {
     simple_made(
-        alloc, rules, scope, frame, false, here, is_taken, n.place, &n.what,
+        alloc,
+        rules,
+        scope,
+        frame,
+        no_jumps(),
+        here,
+        is_taken,
+        n.place,
+        &n.what,
     )
 }
 
@@ -175,17 +192,17 @@ pub fn simple_counted<R: Typing>(
     rules: &R,
     scope: &Scope,
     frame: &Frame,
-    in_loop: bool,
+    jumps: Jumps,
     here: &mut Here,
     is_taken: bool,
     place: Place,
     what: &NodeWhat,
 ) -> Result<Result<Items<Stmt>, Fault>, OutOfMemory>
-    ensures told { IfOk result (λ r. r ≡ told (simple_made (R.rules rules.now) scope.now frame.now in_loop here.old is_taken (line_what what.now place))) }
+    ensures told { IfOk result (λ r. r ≡ told (simple_made (R.rules rules.now) scope.now frame.now jumps here.old is_taken (line_what what.now place))) }
     ensures grown { OnOk result (here.new ≡ numbered (simple_behind scope.now frame.now here.old is_taken (line_what what.now place))) }
 {
     let made = simple_made(
-        alloc, rules, scope, frame, in_loop, here, is_taken, place, what,
+        alloc, rules, scope, frame, jumps, here, is_taken, place, what,
     )?;
     count(here)?;
     Ok(made)
@@ -204,6 +221,106 @@ pub fn condition_counted<R: Typing>(
 {
     let made = condition(alloc, rules, scope, here, place, form)?;
     counted(here, made)
+}
+
+fn tested_counted<R: Typing>(
+    alloc: Global,
+    rules: &R,
+    scope: &Scope,
+    here: &mut Here,
+    place: Place,
+    form: &Form,
+) -> Result<Result<Integer, Fault>, OutOfMemory>
+    ensures told { IfOk result (λ r. r ≡ told (tested_value (R.rules rules.now) scope.now here.old place (written_of form.now))) }
+    ensures grown { OnOk result (here.new ≡ numbered here.old) }
+{
+    let made = tested_value(alloc, rules, scope, here, place, form)?;
+    counted(here, made)
+}
+
+fn tested_at(place: Place, value: &Result<Integer, Fault>) -> Tested
+    ensures { (c : Checked Integer) → value.now ≡ told c → result ≡ tested_at place c }
+{
+    Tested {
+        place,
+        kind: label_kind(value),
+    }
+}
+
+// ---- which jumps may stand in parts
+
+/// Outside loops and switches.
+pub fn no_jumps() -> Jumps
+    ensures { result ≡ no_jumps }
+{
+    Jumps {
+        in_loop: false,
+        breaks: Breaks::Loop,
+    }
+}
+
+fn loop_jumps() -> Jumps
+    ensures { result ≡ loop_jumps }
+{
+    Jumps {
+        in_loop: true,
+        breaks: Breaks::Loop,
+    }
+}
+
+fn clause_jumps(jumps: Jumps) -> Jumps
+    ensures { result ≡ clause_jumps jumps }
+{
+    Jumps {
+        in_loop: jumps.in_loop,
+        breaks: Breaks::Clause,
+    }
+}
+
+fn inner_jumps(jumps: Jumps) -> Jumps
+    ensures { result ≡ inner_jumps jumps }
+{
+    let breaks = match jumps.breaks {
+        Breaks::Loop => Breaks::Loop,
+        Breaks::Clause => Breaks::Nothing,
+        Breaks::Nothing => Breaks::Nothing,
+    };
+    Jumps {
+        in_loop: jumps.in_loop,
+        breaks,
+    }
+}
+
+fn jumps_before(jumps: Jumps, rest: &[Node]) -> Jumps
+    ensures { result ≡ jumps_before jumps (lines_of rest.now) }
+{
+    if rest.is_empty() {
+        jumps
+    } else {
+        inner_jumps(jumps)
+    }
+}
+
+fn is_last(behind: &[Clause]) -> bool
+    ensures { result ≡ is_last (clauses_of behind.now) }
+{
+    behind.is_empty()
+}
+
+/// Whether the clause of number i is the last of its `switch`.
+fn is_last_at(clauses: &[Clause], i: usize) -> bool
+    requires { i < length clauses.now }
+    ensures { result ≡ is_last (clauses_of (drop (i + 1) clauses.now)) }
+{
+    is_last(&clauses[i + 1..])
+}
+
+/// Which may stand in the statement of number i among those of its list.
+fn jumps_at(jumps: Jumps, nodes: &[Node], i: usize) -> Jumps
+    requires { i < length nodes.now }
+    ensures { result ≡ jumps_before jumps (lines_of (drop (i + 1) nodes.now)) }
+{
+    jumps_before(jumps, &nodes[i + 1..])
 }
 
 // ---- the head of a `for`
@@ -382,6 +499,20 @@ pub fn for_of(
     }
 }
 
+pub fn do_of(
+    alloc: Global,
+    number: u32,
+    body: Result<Items<Stmt>, Fault>,
+    e: Result<Expr, Fault>,
+) -> Result<Result<Items<Stmt>, Fault>, AllocError>
+    ensures { (c : Checked (List Stmt)) (d : Checked Expr) → body ≡ told c → e ≡ told d → IfOk result (λ r. r ≡ told (both c d (do_of number))) }
+{
+    match both(body, e) {
+        Ok((body, e)) => Ok(Ok(single(alloc, number, Step::Do(body, e))?)),
+        Err(fault) => Ok(Err(fault)),
+    }
+}
+
 // ---- statements
 
 /// A statement; what it declares and counts is known behind it.
@@ -391,17 +522,17 @@ fn line<R: Typing>(
     rules: &R,
     scope: &Scope,
     frame: &Frame,
-    in_loop: bool,
+    jumps: Jumps,
     is_part: bool,
     here: &mut Here,
     is_taken: bool,
     n: &Node,
 ) -> Result<Result<Items<Stmt>, Fault>, OutOfMemory>
-    ensures told { IfOk result (λ r. r ≡ told (line_made (R.rules rules.now) scope.now frame.now in_loop is_part here.old is_taken (line_of n.now))) }
+    ensures told { IfOk result (λ r. r ≡ told (line_made (R.rules rules.now) scope.now frame.now jumps is_part here.old is_taken (line_of n.now))) }
     ensures grown { OnOk result (here.new ≡ line_behind scope.now frame.now here.old is_taken (line_of n.now)) }
 {
     line_at(
-        alloc, rules, scope, frame, in_loop, is_part, here, is_taken, n.place, &n.what,
+        alloc, rules, scope, frame, jumps, is_part, here, is_taken, n.place, &n.what,
     )
 }
 
@@ -411,14 +542,14 @@ fn line_at<R: Typing>(
     rules: &R,
     scope: &Scope,
     frame: &Frame,
-    in_loop: bool,
+    jumps: Jumps,
     is_part: bool,
     here: &mut Here,
     is_taken: bool,
     place: Place,
     what: &NodeWhat,
 ) -> Result<Result<Items<Stmt>, Fault>, OutOfMemory>
-    ensures told { IfOk result (λ r. r ≡ told (line_made (R.rules rules.now) scope.now frame.now in_loop is_part here.old is_taken (line_what what.now place))) }
+    ensures told { IfOk result (λ r. r ≡ told (line_made (R.rules rules.now) scope.now frame.now jumps is_part here.old is_taken (line_what what.now place))) }
     ensures grown { OnOk result (here.new ≡ line_behind scope.now frame.now here.old is_taken (line_what what.now place)) }
 {
     match what {
@@ -428,7 +559,7 @@ fn line_at<R: Typing>(
                 rules,
                 scope,
                 frame,
-                in_loop,
+                inner_jumps(jumps),
                 is_part,
                 here,
                 body.as_slice(),
@@ -436,18 +567,9 @@ fn line_at<R: Typing>(
         }
         NodeWhat::If(e, one, other) => {
             let n = here.number;
-            let half = if_half(
-                alloc,
-                rules,
-                scope,
-                frame,
-                in_loop,
-                here,
-                place,
-                one.get(),
-                e,
-            )?;
-            match perhaps_line(alloc, rules, scope, frame, in_loop, here, other) {
+            let jumps = inner_jumps(jumps);
+            let half = if_half(alloc, rules, scope, frame, jumps, here, place, one.get(), e)?;
+            match perhaps_line(alloc, rules, scope, frame, jumps, here, other) {
                 Ok(other) => Ok(if_of(alloc, n, half, other)?),
                 Err(error) => left_over(error, half),
             }
@@ -467,8 +589,20 @@ fn line_at<R: Typing>(
             test,
             step,
         ),
+        NodeWhat::Do(body, e) => { do_made(alloc, rules, scope, frame, here, place, body.get(), e) }
+        NodeWhat::Switch(e, clauses) => switch_made(
+            alloc,
+            rules,
+            scope,
+            frame,
+            clause_jumps(jumps),
+            here,
+            place,
+            clauses.as_slice(),
+            e,
+        ),
         _ => simple_counted(
-            alloc, rules, scope, frame, in_loop, here, is_taken, place, what,
+            alloc, rules, scope, frame, jumps, here, is_taken, place, what,
         ),
     }
 }
@@ -480,17 +614,17 @@ fn if_half<R: Typing>(
     rules: &R,
     scope: &Scope,
     frame: &Frame,
-    in_loop: bool,
+    jumps: Jumps,
     here: &mut Here,
     place: Place,
     one: &Node,
     e: &Form,
 ) -> Result<Result<(Expr, Items<Stmt>), Fault>, OutOfMemory>
-    ensures told { IfOk result (λ r. r ≡ told (both (condition (R.rules rules.now) scope.now here.old place (written_of e.now)) (line_made (R.rules rules.now) scope.now frame.now in_loop true (numbered here.old) false (line_of one.now)) pair)) }
+    ensures told { IfOk result (λ r. r ≡ told (both (condition (R.rules rules.now) scope.now here.old place (written_of e.now)) (line_made (R.rules rules.now) scope.now frame.now jumps true (numbered here.old) false (line_of one.now)) pair)) }
     ensures grown { OnOk result (here.new ≡ line_behind scope.now frame.now (numbered here.old) false (line_of one.now)) }
 {
     let head = condition_counted(alloc, rules, scope, here, place, e)?;
-    match line(alloc, rules, scope, frame, in_loop, true, here, false, one) {
+    match line(alloc, rules, scope, frame, jumps, true, here, false, one) {
         Ok(one) => Ok(paired(head, one)),
         Err(error) => left_over(error, head),
     }
@@ -503,11 +637,11 @@ fn perhaps_line<R: Typing>(
     rules: &R,
     scope: &Scope,
     frame: &Frame,
-    in_loop: bool,
+    jumps: Jumps,
     here: &mut Here,
     n: &Option<Boxed<Node>>,
 ) -> Result<Result<Items<Stmt>, Fault>, OutOfMemory>
-    ensures told { IfOk result (λ r. r ≡ told (perhaps_made (R.rules rules.now) scope.now frame.now in_loop here.old (perhaps (option_map line_of n.now)))) }
+    ensures told { IfOk result (λ r. r ≡ told (perhaps_made (R.rules rules.now) scope.now frame.now jumps here.old (perhaps (option_map line_of n.now)))) }
     ensures grown { OnOk result (here.new ≡ perhaps_behind scope.now frame.now here.old (perhaps (option_map line_of n.now))) }
 {
     match n {
@@ -517,7 +651,7 @@ fn perhaps_line<R: Typing>(
             rules,
             scope,
             frame,
-            in_loop,
+            jumps,
             true,
             here,
             false,
@@ -537,12 +671,22 @@ fn while_made<R: Typing>(
     body: &Node,
     e: &Form,
 ) -> Result<Result<Items<Stmt>, Fault>, OutOfMemory>
-    ensures told { IfOk result (λ r. r ≡ told (both (condition (R.rules rules.now) scope.now here.old place (written_of e.now)) (line_made (R.rules rules.now) scope.now frame.now true true (numbered here.old) false (line_of body.now)) (while_of here.old.number))) }
+    ensures told { IfOk result (λ r. r ≡ told (both (condition (R.rules rules.now) scope.now here.old place (written_of e.now)) (line_made (R.rules rules.now) scope.now frame.now loop_jumps true (numbered here.old) false (line_of body.now)) (while_of here.old.number))) }
     ensures grown { OnOk result (here.new ≡ line_behind scope.now frame.now (numbered here.old) false (line_of body.now)) }
 {
     let n = here.number;
     let head = condition_counted(alloc, rules, scope, here, place, e)?;
-    match line(alloc, rules, scope, frame, true, true, here, false, body) {
+    match line(
+        alloc,
+        rules,
+        scope,
+        frame,
+        loop_jumps(),
+        true,
+        here,
+        false,
+        body,
+    ) {
         Ok(body) => Ok(while_of(alloc, n, head, body)?),
         Err(error) => left_over(error, head),
     }
@@ -561,7 +705,7 @@ fn for_made<R: Typing>(
     test: &Option<Form>,
     step: &Option<Boxed<Node>>,
 ) -> Result<Result<Items<Stmt>, Fault>, OutOfMemory>
-    ensures told { IfOk result (λ r. r ≡ told (both (for_head (R.rules rules.now) scope.now frame.now (entered here.old) place (lines_of init.now) (option_map written_of test.now) (perhaps (option_map line_of step.now)) (line_of body.now)) (line_made (R.rules rules.now) scope.now frame.now true true (behind_head scope.now frame.now (entered here.old) (lines_of init.now) (option_map written_of test.now) (perhaps (option_map line_of step.now)) (line_of body.now)) false (line_of body.now)) (for_of here.old.number))) }
+    ensures told { IfOk result (λ r. r ≡ told (both (for_head (R.rules rules.now) scope.now frame.now (entered here.old) place (lines_of init.now) (option_map written_of test.now) (perhaps (option_map line_of step.now)) (line_of body.now)) (line_made (R.rules rules.now) scope.now frame.now loop_jumps true (behind_head scope.now frame.now (entered here.old) (lines_of init.now) (option_map written_of test.now) (perhaps (option_map line_of step.now)) (line_of body.now)) false (line_of body.now)) (for_of here.old.number))) }
     ensures grown { OnOk result (here.new ≡ left here.old (line_behind scope.now frame.now (behind_head scope.now frame.now (entered here.old) (lines_of init.now) (option_map written_of test.now) (perhaps (option_map line_of step.now)) (line_of body.now)) false (line_of body.now))) }
 {
     let n = here.number;
@@ -571,13 +715,198 @@ fn for_made<R: Typing>(
     let head = for_head(
         alloc, rules, scope, frame, here, place, init, test, step, body,
     )?;
-    match line(alloc, rules, scope, frame, true, true, here, false, body) {
+    match line(
+        alloc,
+        rules,
+        scope,
+        frame,
+        loop_jumps(),
+        true,
+        here,
+        false,
+        body,
+    ) {
         Ok(inside) => {
             leave(alloc, names, first, here);
             Ok(for_of(alloc, n, head, inside)?)
         }
         Err(error) => left_over(error, head),
     }
+}
+
+#[cycle(line)]
+fn do_made<R: Typing>(
+    alloc: Global,
+    rules: &R,
+    scope: &Scope,
+    frame: &Frame,
+    here: &mut Here,
+    place: Place,
+    body: &Node,
+    e: &Form,
+) -> Result<Result<Items<Stmt>, Fault>, OutOfMemory>
+    ensures told { IfOk result (λ r. r ≡ told (both (line_made (R.rules rules.now) scope.now frame.now loop_jumps true (numbered here.old) false (line_of body.now)) (condition (R.rules rules.now) scope.now (line_behind scope.now frame.now (numbered here.old) false (line_of body.now)) place (written_of e.now)) (do_of here.old.number))) }
+    ensures grown { OnOk result (here.new ≡ line_behind scope.now frame.now (numbered here.old) false (line_of body.now)) }
+{
+    let n = here.number;
+    count(here)?;
+    let inside = line(
+        alloc,
+        rules,
+        scope,
+        frame,
+        loop_jumps(),
+        true,
+        here,
+        false,
+        body,
+    )?;
+    match condition(alloc, rules, scope, here, place, e) {
+        Ok(test) => Ok(do_of(alloc, n, inside, test)?),
+        Err(error) => left_over(error, inside),
+    }
+}
+
+#[cycle(line)]
+fn switch_made<R: Typing>(
+    alloc: Global,
+    rules: &R,
+    scope: &Scope,
+    frame: &Frame,
+    jumps: Jumps,
+    here: &mut Here,
+    place: Place,
+    clauses: &[Clause],
+    e: &Form,
+) -> Result<Result<Items<Stmt>, Fault>, OutOfMemory>
+    ensures told { IfOk result (λ r. r ≡ told (both (tested_value (R.rules rules.now) scope.now here.old place (written_of e.now)) (clauses_made (R.rules rules.now) scope.now frame.now jumps (numbered here.old) (tested_at place (tested_value (R.rules rules.now) scope.now here.old place (written_of e.now))) [] (clauses_of clauses.now)) (switch_of here.old.number))) }
+    ensures grown { OnOk result (here.new ≡ clauses_behind scope.now frame.now (numbered here.old) (clauses_of clauses.now)) }
+{
+    let n = here.number;
+    let value = tested_counted(alloc, rules, scope, here, place, e)?;
+    let at = tested_at(place, &value);
+    match clauses_made(alloc, rules, scope, frame, jumps, here, at, clauses) {
+        Ok(made) => Ok(switch_of(alloc, n, value, made)?),
+        Err(error) => left_over(error, value),
+    }
+}
+
+/// The clauses of a `switch`, one behind the other.
+#[cycle(line)]
+#[tactic(auto, using(mdr_faults::proofs::Gathered::followed_none))]
+fn clauses_made<R: Typing>(
+    alloc: Global,
+    rules: &R,
+    scope: &Scope,
+    frame: &Frame,
+    jumps: Jumps,
+    here: &mut Here,
+    at: Tested,
+    clauses: &[Clause],
+) -> Result<Result<Items<MadeClause>, Fault>, OutOfMemory>
+    ensures told { IfOk result (λ r. r ≡ told (clauses_made (R.rules rules.now) scope.now frame.now jumps here.old at [] (clauses_of clauses.now))) }
+    ensures grown { OnOk result (here.new ≡ clauses_behind scope.now frame.now here.old (clauses_of clauses.now)) }
+{
+    let mut all = Ok(Items::new(alloc));
+    let mut seen = Items::new(alloc);
+    for i in 0..clauses.len() {
+        let made = clause(
+            alloc,
+            rules,
+            scope,
+            frame,
+            jumps,
+            here,
+            at,
+            &mut seen,
+            is_last_at(clauses, i),
+            &clauses[i],
+        )?;
+        all = followed(all, made)?;
+    }
+    Ok(all)
+}
+
+/// A clause, behind the labels that were seen before it.
+#[cycle(line)]
+fn clause<R: Typing>(
+    alloc: Global,
+    rules: &R,
+    scope: &Scope,
+    frame: &Frame,
+    jumps: Jumps,
+    here: &mut Here,
+    at: Tested,
+    seen: &mut Items<CaseLabel>,
+    is_last: bool,
+    clause: &Clause,
+) -> Result<Result<Items<MadeClause>, Fault>, OutOfMemory>
+    ensures told { IfOk result (λ r. r ≡ told (both (labels_made scope.now here.old.names at.kind seen.old (clause_of clause.now).0) (demand (clause_place at.place (clause_of clause.now).0) Mismatch (ends (clause_of clause.now).1 is_last) (lines_made (R.rules rules.now) scope.now frame.now jumps (entered here.old) (clause_of clause.now).1)) (made_clause at.kind))) }
+    ensures grown { OnOk result (here.new ≡ left here.old (lines_behind scope.now frame.now (entered here.old) (clause_of clause.now).1)) }
+    ensures seen { OnOk result (seen.new ≡ labels_behind scope.now here.old.names at.kind seen.old (clause_of clause.now).0) }
+{
+    labelled(
+        alloc,
+        rules,
+        scope,
+        frame,
+        jumps,
+        here,
+        at,
+        seen,
+        is_last,
+        clause.body.as_slice(),
+        clause.labels.as_slice(),
+    )
+}
+
+/// Labels, and the statements behind them.
+#[cycle(line)]
+fn labelled<R: Typing>(
+    alloc: Global,
+    rules: &R,
+    scope: &Scope,
+    frame: &Frame,
+    jumps: Jumps,
+    here: &mut Here,
+    at: Tested,
+    seen: &mut Items<CaseLabel>,
+    is_last: bool,
+    body: &[Node],
+    labels: &[Label],
+) -> Result<Result<Items<MadeClause>, Fault>, OutOfMemory>
+    ensures told { IfOk result (λ r. r ≡ told (both (labels_made scope.now here.old.names at.kind seen.old labels.now) (demand (clause_place at.place labels.now) Mismatch (ends (lines_of body.now) is_last) (lines_made (R.rules rules.now) scope.now frame.now jumps (entered here.old) (lines_of body.now))) (made_clause at.kind))) }
+    ensures grown { OnOk result (here.new ≡ left here.old (lines_behind scope.now frame.now (entered here.old) (lines_of body.now))) }
+    ensures seen { OnOk result (seen.new ≡ labels_behind scope.now here.old.names at.kind seen.old labels.now) }
+{
+    let first = labels_made(alloc, scope, here.names.as_slice(), at.kind, seen, labels)?;
+    let place = clause_place(at.place, labels);
+    match ended_block(
+        alloc, rules, scope, frame, jumps, here, place, is_last, body,
+    ) {
+        Ok(second) => Ok(made_clause(alloc, at.kind, first, second)?),
+        Err(error) => left_over(error, first),
+    }
+}
+
+/// The statements of the clause at this place.
+#[cycle(line)]
+fn ended_block<R: Typing>(
+    alloc: Global,
+    rules: &R,
+    scope: &Scope,
+    frame: &Frame,
+    jumps: Jumps,
+    here: &mut Here,
+    place: Place,
+    is_last: bool,
+    body: &[Node],
+) -> Result<Result<Items<Stmt>, Fault>, OutOfMemory>
+    ensures told { IfOk result (λ r. r ≡ told (demand place Mismatch (ends (lines_of body.now) is_last) (lines_made (R.rules rules.now) scope.now frame.now jumps (entered here.old) (lines_of body.now)))) }
+    ensures grown { OnOk result (here.new ≡ left here.old (lines_behind scope.now frame.now (entered here.old) (lines_of body.now))) }
+{
+    let made = block(alloc, rules, scope, frame, jumps, true, here, body)?;
+    Ok(demanded(place, FaultKind::Mismatch, ends(body, is_last), made))
 }
 
 /// A block with names of its own.
@@ -587,18 +916,18 @@ fn block<R: Typing>(
     rules: &R,
     scope: &Scope,
     frame: &Frame,
-    in_loop: bool,
+    jumps: Jumps,
     is_part: bool,
     here: &mut Here,
     nodes: &[Node],
 ) -> Result<Result<Items<Stmt>, Fault>, OutOfMemory>
-    ensures told { IfOk result (λ r. r ≡ told (as_part is_part (lines_made (R.rules rules.now) scope.now frame.now in_loop (entered here.old) (lines_of nodes.now)))) }
+    ensures told { IfOk result (λ r. r ≡ told (as_part is_part (lines_made (R.rules rules.now) scope.now frame.now jumps (entered here.old) (lines_of nodes.now)))) }
     ensures grown { OnOk result (here.new ≡ left here.old (lines_behind scope.now frame.now (entered here.old) (lines_of nodes.now))) }
 {
     let names = here.names.len();
     let first = here.first;
     here.first = here.slot;
-    let made = lines(alloc, rules, scope, frame, in_loop, here, nodes)?;
+    let made = lines(alloc, rules, scope, frame, jumps, here, nodes)?;
     leave(alloc, names, first, here);
     Ok(as_part(alloc, is_part, made)?)
 }
@@ -611,11 +940,11 @@ pub fn lines<R: Typing>(
     rules: &R,
     scope: &Scope,
     frame: &Frame,
-    in_loop: bool,
+    jumps: Jumps,
     here: &mut Here,
     nodes: &[Node],
 ) -> Result<Result<Items<Stmt>, Fault>, OutOfMemory>
-    ensures told { IfOk result (λ r. r ≡ told (lines_made (R.rules rules.now) scope.now frame.now in_loop here.old (lines_of nodes.now))) }
+    ensures told { IfOk result (λ r. r ≡ told (lines_made (R.rules rules.now) scope.now frame.now jumps here.old (lines_of nodes.now))) }
     ensures grown { OnOk result (here.new ≡ lines_behind scope.now frame.now here.old (lines_of nodes.now)) }
 {
     let mut all = Ok(Items::new(alloc));
@@ -626,7 +955,7 @@ pub fn lines<R: Typing>(
             rules,
             scope,
             frame,
-            in_loop,
+            jumps_at(jumps, nodes, i),
             false,
             here,
             taken_at(n, nodes, i),

@@ -1,6 +1,6 @@
 // A function's body (C99 6.9.1).
 
-ghost use Rattle.std.specs.Prelude.{◌≡◌, IfOk, List, false, map};
+ghost use Rattle.std.specs.Prelude.{◌≡◌, IfOk, List, map};
 ghost use Rattle.mdr_rich.specs.declared.code.Stmt.{Stmt};
 ghost use Rattle.mdr_core.specs.declared.program.Local.{Local};
 ghost use Rattle.mdr_faults.specs.Faults.{Checked, told, both};
@@ -11,7 +11,7 @@ ghost use Rattle.mdr_body.specs.Bodies.{declared_locals, frame_of, body_of, body
 
 use crate::here::{DeclaredLocal, Frame, Here};
 use crate::locals::{first_here, parameter_objects, struct_locks};
-use crate::statement::lines;
+use crate::statement::{lines, no_jumps};
 use crate::typing::Typing;
 use crate::uses::first_use;
 use mdr_core::{Items, Local, OutOfMemory, Place};
@@ -77,7 +77,7 @@ fn body_by<R: Typing>(
     ensures { IfOk result (λ r. r ≡ told (body_by (R.rules rules.now) scope.now frame.now here objects (lines_of nodes.now))) }
 {
     let mut here = here;
-    let made = lines(alloc, rules, scope, frame, false, &mut here, nodes)?;
+    let made = lines(alloc, rules, scope, frame, no_jumps(), &mut here, nodes)?;
     let locals = declared_locals(alloc, here.locals)?;
     Ok(body_of(objects, locals, made))
 }

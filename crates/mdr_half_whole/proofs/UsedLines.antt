@@ -16,25 +16,32 @@ use Rattle.mdr_faults.specs.declared.fault.FaultKind.TheVariants.{Mismatch}
 use Rattle.mdr_faults.specs.declared.scope.Object.{Object}
 use Rattle.mdr_faults.specs.declared.scope.Scope.{Scope}
 use Rattle.mdr_faults.specs.Declarations.{is_same_name, is_void}
-use Rattle.mdr_faults.specs.Faults.{Checked, Right, again, both, told}
+use Rattle.mdr_faults.specs.Faults.{Checked, Right, again, both, demand, told}
 use Rattle.mdr_faults.specs.Scopes.{entity_named, or_else}
 use Rattle.mdr_headings.specs.Structs.{name_or_none}
+use Rattle.mdr_operand.specs.declared.operand.Integer.{Integer}
 use Rattle.mdr_operand.specs.declared.room.LocalName.{LocalName}
 use Rattle.mdr_operand.specs.Rooms.{local_from, local_named}
 use Rattle.mdr_operand.specs.Written.{Written, Line, Lines, Clauses, Labelled, line_list, clause_list, node_what_written, clause_written, node_written, line_of, lines_of, clause_of}
 use Rattle.mdr_express.specs.Expressions.{typed}
 use Rattle.mdr_call.specs.Services.{service_named}
+use Rattle.mdr_body.specs.declared.clauses.MadeClause.{MadeClause}
 use Rattle.mdr_body.specs.declared.here.Frame.{Frame}
 use Rattle.mdr_body.specs.declared.here.Here.{Here}
+use Rattle.mdr_body.specs.declared.here.Jumps.{Jumps}
+use Rattle.mdr_body.specs.declared.here.Tested.{Tested}
+use Rattle.mdr_body.specs.declared.labels.CaseLabel.{CaseLabel}
 use Rattle.mdr_body.specs.Bodies.{body_of, body_rule, declared_locals, frame_of}
-use Rattle.mdr_body.specs.Locals.{entered, first_here, is_own_object, is_taken, local_object, name_of, named_local, numbered, parameter_means, parameter_taken, parameters_from, with_local}
+use Rattle.mdr_body.specs.Clauses.{clause_place, ends, is_last, made_clause, switch_value}
+use Rattle.mdr_body.specs.Labels.{labels_behind, labels_made}
+use Rattle.mdr_body.specs.Locals.{entered, first_here, is_own_object, is_taken, left, local_object, name_of, named_local, numbered, parameter_means, parameter_taken, parameters_from, with_local}
 use Rattle.mdr_body.specs.Addresses.{hides, is_declared_by}
-use Rattle.mdr_body.specs.Uses.{first_use, is_parameter, perhaps_use, use_along, use_at, use_in}
-use Rattle.mdr_body.specs.Statements.{ForHead, appended, as_part, behind_head, block_of, condition, declared_then, for_head, for_of, head_taken, heads_behind, heads_made, if_of, initial_by, initial_step, is_single, line_behind, line_made, lines_behind, lines_made, local_made, own_place, pair, perhaps_condition, perhaps_made, return_by, return_step, simple_behind, simple_made, single, some, steps_behind, steps_made, tested, text_of, while_of}
+use Rattle.mdr_body.specs.Uses.{first_use, is_parameter, perhaps_use, use_along, use_at, use_in, use_in_clauses}
+use Rattle.mdr_body.specs.Statements.{ForHead, appended, as_part, behind_head, block_of, clause_jumps, clauses_made, condition, declared_then, do_of, for_head, for_of, head_taken, heads_behind, heads_made, if_of, initial_by, initial_step, inner_jumps, is_single, jumps_before, line_behind, line_made, lines_behind, lines_made, local_made, loop_jumps, no_jumps, own_place, pair, perhaps_condition, perhaps_made, return_by, return_step, simple_behind, simple_made, single, some, steps_behind, steps_made, switch_of, tested, tested_at, tested_value, text_of, while_of}
 use Rattle.mdr_typing.specs.Profile.{assigned, called, profile_rules, returned, stored}
-use Rattle.mdr_sound_code.proofs.Rights.{after_right, both_right, chosen_right, not_right, refused_right}
-use Rattle.mdr_sound_bodies.specs.Written.{AreNamed, AreProper, AreStatements, IsNamed, IsProper, IsStatement}
-use Rattle.mdr_sound_bodies.proofs.Growing.{names_keep}
+use Rattle.mdr_sound_code.proofs.Rights.{after_right, both_right, chosen_right, demand_right, not_right, refused_right}
+use Rattle.mdr_sound_bodies.specs.Written.{AreNamed, AreProper, AreProperClauses, AreStatements, IsNamed, IsProper, IsStatement}
+use Rattle.mdr_sound_bodies.proofs.Growing.{left_keeps, lines_grow, names_keep}
 use Rattle.mdr_sound_bodies.proofs.Naming.{named_last}
 use Rattle.mdr_half_whole.specs.Usable.{BodiesUseWhatIsDeclared, GivesNothing}
 use Rattle.mdr_half_whole.proofs.UsedForms.{assigned_free, called_free, neither, returned_free, stored_free, typed_free}
@@ -56,7 +63,7 @@ abbrev mutual
   IsWhole (Line.If p e one other) = IsWhole one × (AtMostOne other × AreWhole other)
   IsWhole (Line.While p e body) = IsWhole body
   IsWhole (Line.For p init test step body) = AtMostOne step × IsWhole body
-  IsWhole (Line.Do p body e) = Unit {0}
+  IsWhole (Line.Do p body e) = IsWhole body
   IsWhole (Line.Switch p e cs) = AreWholeClauses cs
   IsWhole (Line.Return p e) = Unit {0}
   IsWhole (Line.Break p) = Unit {0}
@@ -104,7 +111,7 @@ layer_whole what clause of in_clauses good (NodeWhat-F.If c a (Some b)) p = (goo
 layer_whole what clause of in_clauses good (NodeWhat-F.While c a) p = good a
 layer_whole what clause of in_clauses good (NodeWhat-F.For zs c None a) p = (tt, good a)
 layer_whole what clause of in_clauses good (NodeWhat-F.For zs c (Some s) a) p = (tt, good a)
-layer_whole what clause of in_clauses good (NodeWhat-F.Do a c) p = tt
+layer_whole what clause of in_clauses good (NodeWhat-F.Do a c) p = good a
 layer_whole what clause of in_clauses good (NodeWhat-F.Switch c cs) p = all_whole_clauses clause in_clauses cs
 layer_whole what clause of in_clauses good (NodeWhat-F.Return o) p = tt
 layer_whole what clause of in_clauses good NodeWhat-F.Break p = tt
@@ -176,6 +183,10 @@ module _ (scope : Scope) (name : List ℕ) (gives : GivesNothing (entity_named s
   unfolding condition
   condition_free here p w x f e = let a = after_right (typed scope here.names w) (tested p) x e in typed_free scope name gives plain here.names f w a.value a.right
 
+  tested_free : (here : Here) (p : Place) (w : Written) (v : Integer) → IsFree here → tested_value profile_rules scope here p w ≡ Right v → use_in name w ≡ None
+  unfolding tested_value
+  tested_free here p w v f e = let a = after_right (typed scope here.names w) (switch_value p) v e in typed_free scope name gives plain here.names f w a.value a.right
+
   perhaps_free : (here : Here) (p : Place) (o : Option Written) (x : Option Expr) → IsFree here → perhaps_condition profile_rules scope here p o ≡ Right x → perhaps_use name o ≡ None
   unfolding perhaps_condition
   perhaps_free here p None x f e = refl
@@ -207,26 +218,26 @@ module _ (scope : Scope) (name : List ℕ) (gives : GivesNothing (entity_named s
       let r = refused_right (is_void a.value) (returned scope here.names p a.value w) p Mismatch s a.made in
       returned_free scope name gives plain here.names f p a.value w s r.right
 
-  simple_free : (in_loop : Bool) (here : Here) (t : Bool) (l : Line) (ss : List Stmt) → IsProper l → IsFree here → simple_made profile_rules scope frame in_loop here t l ≡ Right ss → use_at name l ≡ None
-  simple_free in_loop here t (Line.Empty p) ss h f e = refl
-  simple_free in_loop here t (Line.Block p ls) ss h f e = not_right _ ss e
-  simple_free in_loop here t (Line.Local p d init) ss h f e = local_free here t d init ss h.0 f e
-  simple_free in_loop here t (Line.Assign p at op a b) ss h f e =
+  simple_free : (jumps : Jumps) (here : Here) (t : Bool) (l : Line) (ss : List Stmt) → IsProper l → IsFree here → simple_made profile_rules scope frame jumps here t l ≡ Right ss → use_at name l ≡ None
+  simple_free jumps here t (Line.Empty p) ss h f e = refl
+  simple_free jumps here t (Line.Block p ls) ss h f e = not_right _ ss e
+  simple_free jumps here t (Line.Local p d init) ss h f e = local_free here t d init ss h.0 f e
+  simple_free jumps here t (Line.Assign p at op a b) ss h f e =
       let s = after_right (assigned scope here.names at op a b) (single here.number) ss e in
       assigned_free scope name gives plain here.names f at op a b s.value s.right
-  simple_free in_loop here t (Line.Plain p w) ss h f e =
+  simple_free jumps here t (Line.Plain p w) ss h f e =
       let s = after_right (called scope here.names w) (single here.number) ss e in
       called_free scope name gives plain here.names f w s.value s.right
-  simple_free in_loop here t (Line.If p c one other) ss h f e = not_right _ ss e
-  simple_free in_loop here t (Line.While p c body) ss h f e = not_right _ ss e
-  simple_free in_loop here t (Line.For p init test step body) ss h f e = not_right _ ss e
-  simple_free in_loop here t (Line.Do p body c) ss h f e = not_right _ ss e
-  simple_free in_loop here t (Line.Switch p c cs) ss h f e = not_right _ ss e
-  simple_free in_loop here t (Line.Return p o) ss h f e =
+  simple_free jumps here t (Line.If p c one other) ss h f e = not_right _ ss e
+  simple_free jumps here t (Line.While p c body) ss h f e = not_right _ ss e
+  simple_free jumps here t (Line.For p init test step body) ss h f e = not_right _ ss e
+  simple_free jumps here t (Line.Do p body c) ss h f e = not_right _ ss e
+  simple_free jumps here t (Line.Switch p c cs) ss h f e = not_right _ ss e
+  simple_free jumps here t (Line.Return p o) ss h f e =
       let s = after_right (return_step profile_rules scope frame here p o) (single here.number) ss e in
       return_free here p o s.value f s.right
-  simple_free in_loop here t (Line.Break p) ss h f e = refl
-  simple_free in_loop here t (Line.Continue p) ss h f e = refl
+  simple_free jumps here t (Line.Break p) ss h f e = refl
+  simple_free jumps here t (Line.Continue p) ss h f e = refl
 
   -- ---- behind a statement that doesn't hide the name
 
@@ -246,8 +257,8 @@ module _ (scope : Scope) (name : List ℕ) (gives : GivesNothing (entity_named s
   free_line here t (Line.If p c one other) h q f = free_kept here t (Line.If p c one other) refl h f
   free_line here t (Line.While p c body) h q f = free_kept here t (Line.While p c body) refl h f
   free_line here t (Line.For p init test step body) h q f = free_kept here t (Line.For p init test step body) refl h f
-  free_line here t (Line.Do p body c) h q f = f
-  free_line here t (Line.Switch p c cs) h q f = f
+  free_line here t (Line.Do p body c) h q f = free_kept here t (Line.Do p body c) refl h f
+  free_line here t (Line.Switch p c cs) h q f = free_kept here t (Line.Switch p c cs) refl h f
   free_line here t (Line.Return p o) h q f = f
   free_line here t (Line.Break p) h q f = f
   free_line here t (Line.Continue p) h q f = f
@@ -265,13 +276,13 @@ module _ (scope : Scope) (name : List ℕ) (gives : GivesNothing (entity_named s
   heads_free here test step body Lines.End ss behind h f k e = k f
   heads_free here test step body (Lines.Then l ls) ss behind h f k e =
       let t : Bool = head_taken l ls test step body in
-      let b = both_right (simple_made profile_rules scope frame false here t l) (heads_made profile_rules scope frame (simple_behind scope frame here t l) test step body ls) appended ss e in
-      neither (use_at name l) (chosen (hides name l) None (use_along name ls behind)) (simple_free false here t l b.left h.0 f b.first)
+      let b = both_right (simple_made profile_rules scope frame no_jumps here t l) (heads_made profile_rules scope frame (simple_behind scope frame here t l) test step body ls) appended ss e in
+      neither (use_at name l) (chosen (hides name l) None (use_along name ls behind)) (simple_free no_jumps here t l b.left h.0 f b.first)
       (unless (hides name l) (use_along name ls behind) (λ q. heads_free (simple_behind scope frame here t l) test step body ls b.right behind h.1 (free_simple here t l h.0 q f) k b.second))
 
   steps_free : (here : Here) (ls : Lines) (ss : List Stmt) → AtMostOne ls → AreProper ls → IsFree here → steps_made profile_rules scope frame here ls ≡ Right ss → use_along name ls None ≡ None
   steps_free here Lines.End ss a h f e = refl
-  steps_free here (Lines.Then l Lines.End) ss a h f e = neither (use_at name l) (chosen (hides name l) None None) (simple_free false here false l ss h.0 f e) (no_either (hides name l))
+  steps_free here (Lines.Then l Lines.End) ss a h f e = neither (use_at name l) (chosen (hides name l) None None) (simple_free no_jumps here false l ss h.0 f e) (no_either (hides name l))
   steps_free here (Lines.Then l (Lines.Then m ls)) ss a h f e = absurd a
 
   for_free : (here : Here) (p : Place) (init : Lines) (test : Option Written) (step : Lines) (body : Line) (x : ForHead) → (AreProper init × (AreStatements step × AreProper step)) → AtMostOne step → IsFree here
@@ -294,46 +305,67 @@ module _ (scope : Scope) (name : List ℕ) (gives : GivesNothing (entity_named s
   part_comes false c ss e = let a = after_right c block_of ss e in (a.value, a.right)
 
   mutual
-    line_free : (in_loop is_part : Bool) (here : Here) (t : Bool) (l : Line) (ss : List Stmt) → IsProper l → IsWhole l → IsFree here → line_made profile_rules scope frame in_loop is_part here t l ≡ Right ss → use_at name l ≡ None
-    line_free in_loop is_part here t (Line.Empty p) ss h w f e = refl
-    line_free in_loop is_part here t (Line.Block p ls) ss h w f e =
-        let c = part_comes is_part (lines_made profile_rules scope frame in_loop (entered here) ls) ss e in
-        lines_free in_loop (entered here) ls c.0 h w f c.1
-    line_free in_loop is_part here t (Line.Local p d init) ss h w f e = simple_free in_loop here t (Line.Local p d init) ss h f e
-    line_free in_loop is_part here t (Line.Assign p at op a b) ss h w f e = simple_free in_loop here t (Line.Assign p at op a b) ss h f e
-    line_free in_loop is_part here t (Line.Plain p v) ss h w f e = simple_free in_loop here t (Line.Plain p v) ss h f e
-    line_free in_loop is_part here t (Line.If p c one other) ss h w f e =
+    line_free : (jumps : Jumps) (is_part : Bool) (here : Here) (t : Bool) (l : Line) (ss : List Stmt) → IsProper l → IsWhole l → IsFree here → line_made profile_rules scope frame jumps is_part here t l ≡ Right ss → use_at name l ≡ None
+    line_free jumps is_part here t (Line.Empty p) ss h w f e = refl
+    line_free jumps is_part here t (Line.Block p ls) ss h w f e =
+        let c = part_comes is_part (lines_made profile_rules scope frame (inner_jumps jumps) (entered here) ls) ss e in
+        lines_free (inner_jumps jumps) (entered here) ls c.0 h w f c.1
+    line_free jumps is_part here t (Line.Local p d init) ss h w f e = simple_free jumps here t (Line.Local p d init) ss h f e
+    line_free jumps is_part here t (Line.Assign p at op a b) ss h w f e = simple_free jumps here t (Line.Assign p at op a b) ss h f e
+    line_free jumps is_part here t (Line.Plain p v) ss h w f e = simple_free jumps here t (Line.Plain p v) ss h f e
+    line_free jumps is_part here t (Line.If p c one other) ss h w f e =
         let there : Here = line_behind scope frame (numbered here) false one in
-        let outer = both_right (both (condition profile_rules scope here p c) (line_made profile_rules scope frame in_loop true (numbered here) false one) pair) (perhaps_made profile_rules scope frame in_loop there other) (if_of here.number) ss e in
-        let inner = both_right (condition profile_rules scope here p c) (line_made profile_rules scope frame in_loop true (numbered here) false one) pair outer.left outer.first in
+        let outer = both_right (both (condition profile_rules scope here p c) (line_made profile_rules scope frame (inner_jumps jumps) true (numbered here) false one) pair) (perhaps_made profile_rules scope frame (inner_jumps jumps) there other) (if_of here.number) ss e in
+        let inner = both_right (condition profile_rules scope here p c) (line_made profile_rules scope frame (inner_jumps jumps) true (numbered here) false one) pair outer.left outer.first in
         neither (use_in name c) (or_else (use_at name one) (use_along name other None)) (condition_free here p c inner.left f inner.first)
-        (neither (use_at name one) (use_along name other None) (line_free in_loop true (numbered here) false one inner.right h.1.0.1 w.0 f inner.second)
-        (others_free in_loop there other outer.right h.1.1.1 w.1.0 w.1.1 (free_kept (numbered here) false one h.1.0.0 h.1.0.1 f) outer.second))
-    line_free in_loop is_part here t (Line.While p c body) ss h w f e =
-        let b = both_right (condition profile_rules scope here p c) (line_made profile_rules scope frame true true (numbered here) false body) (while_of here.number) ss e in
-        neither (use_in name c) (use_at name body) (condition_free here p c b.left f b.first) (line_free true true (numbered here) false body b.right h.1.1 w f b.second)
-    line_free in_loop is_part here t (Line.For p init test step body) ss h w f e =
+        (neither (use_at name one) (use_along name other None) (line_free (inner_jumps jumps) true (numbered here) false one inner.right h.1.0.1 w.0 f inner.second)
+        (others_free (inner_jumps jumps) there other outer.right h.1.1.1 w.1.0 w.1.1 (free_kept (numbered here) false one h.1.0.0 h.1.0.1 f) outer.second))
+    line_free jumps is_part here t (Line.While p c body) ss h w f e =
+        let b = both_right (condition profile_rules scope here p c) (line_made profile_rules scope frame loop_jumps true (numbered here) false body) (while_of here.number) ss e in
+        neither (use_in name c) (use_at name body) (condition_free here p c b.left f b.first) (line_free loop_jumps true (numbered here) false body b.right h.1.1 w f b.second)
+    line_free jumps is_part here t (Line.For p init test step body) ss h w f e =
         let there : Here = behind_head scope frame (entered here) init test step body in
-        let b = both_right (for_head profile_rules scope frame (entered here) p init test step body) (line_made profile_rules scope frame true true there false body) (for_of here.number) ss e in
-        for_free (entered here) p init test step body b.left (h.0.0, h.1.0) w.0 f (λ g. line_free true true there false body b.right h.1.1.1 w.1 g b.second) b.first
-    line_free in_loop is_part here t (Line.Do p body c) ss h w f e = not_right _ ss e
-    line_free in_loop is_part here t (Line.Switch p c cs) ss h w f e = not_right _ ss e
-    line_free in_loop is_part here t (Line.Return p o) ss h w f e = simple_free in_loop here t (Line.Return p o) ss h f e
-    line_free in_loop is_part here t (Line.Break p) ss h w f e = refl
-    line_free in_loop is_part here t (Line.Continue p) ss h w f e = refl
+        let b = both_right (for_head profile_rules scope frame (entered here) p init test step body) (line_made profile_rules scope frame loop_jumps true there false body) (for_of here.number) ss e in
+        for_free (entered here) p init test step body b.left (h.0.0, h.1.0) w.0 f (λ g. line_free loop_jumps true there false body b.right h.1.1.1 w.1 g b.second) b.first
+    line_free jumps is_part here t (Line.Do p body c) ss h w f e =
+        let there : Here = line_behind scope frame (numbered here) false body in
+        let b = both_right (line_made profile_rules scope frame loop_jumps true (numbered here) false body) (condition profile_rules scope there p c) (do_of here.number) ss e in
+        neither (use_at name body) (use_in name c) (line_free loop_jumps true (numbered here) false body b.left h.0.1 w f b.first)
+        (condition_free there p c b.right (free_kept (numbered here) false body h.0.0 h.0.1 f) b.second)
+    line_free jumps is_part here t (Line.Switch p c cs) ss h w f e =
+        let tested : Checked Integer = tested_value profile_rules scope here p c in
+        let b = both_right tested (clauses_made profile_rules scope frame (clause_jumps jumps) (numbered here) (tested_at p tested) [] cs) (switch_of here.number) ss e in
+        neither (use_in name c) (use_in_clauses name cs) (tested_free here p c b.left f b.first) (clauses_free (clause_jumps jumps) (numbered here) (tested_at p tested) [] cs b.right h.1 w f b.second)
+    line_free jumps is_part here t (Line.Return p o) ss h w f e = simple_free jumps here t (Line.Return p o) ss h f e
+    line_free jumps is_part here t (Line.Break p) ss h w f e = refl
+    line_free jumps is_part here t (Line.Continue p) ss h w f e = refl
 
-    others_free : (in_loop : Bool) (here : Here) (ls : Lines) (ss : List Stmt) → AreProper ls → AtMostOne ls → AreWhole ls → IsFree here → perhaps_made profile_rules scope frame in_loop here ls ≡ Right ss → use_along name ls None ≡ None
-    others_free in_loop here Lines.End ss h a w f e = refl
-    others_free in_loop here (Lines.Then l Lines.End) ss h a w f e = neither (use_at name l) (chosen (hides name l) None None) (line_free in_loop true here false l ss h.0 w.0 f e) (no_either (hides name l))
-    others_free in_loop here (Lines.Then l (Lines.Then m ls)) ss h a w f e = absurd a
+    others_free : (jumps : Jumps) (here : Here) (ls : Lines) (ss : List Stmt) → AreProper ls → AtMostOne ls → AreWhole ls → IsFree here → perhaps_made profile_rules scope frame jumps here ls ≡ Right ss → use_along name ls None ≡ None
+    others_free jumps here Lines.End ss h a w f e = refl
+    others_free jumps here (Lines.Then l Lines.End) ss h a w f e = neither (use_at name l) (chosen (hides name l) None None) (line_free jumps true here false l ss h.0 w.0 f e) (no_either (hides name l))
+    others_free jumps here (Lines.Then l (Lines.Then m ls)) ss h a w f e = absurd a
 
-    lines_free : (in_loop : Bool) (here : Here) (ls : Lines) (ss : List Stmt) → AreProper ls → AreWhole ls → IsFree here → lines_made profile_rules scope frame in_loop here ls ≡ Right ss → use_along name ls None ≡ None
-    lines_free in_loop here Lines.End ss h w f e = refl
-    lines_free in_loop here (Lines.Then l ls) ss h w f e =
+    lines_free : (jumps : Jumps) (here : Here) (ls : Lines) (ss : List Stmt) → AreProper ls → AreWhole ls → IsFree here → lines_made profile_rules scope frame jumps here ls ≡ Right ss → use_along name ls None ≡ None
+    lines_free jumps here Lines.End ss h w f e = refl
+    lines_free jumps here (Lines.Then l ls) ss h w f e =
         let t : Bool = is_taken l ls in
-        let b = both_right (line_made profile_rules scope frame in_loop false here t l) (lines_made profile_rules scope frame in_loop (line_behind scope frame here t l) ls) appended ss e in
-        neither (use_at name l) (chosen (hides name l) None (use_along name ls None)) (line_free in_loop false here t l b.left h.0 w.0 f b.first)
-        (unless (hides name l) (use_along name ls None) (λ q. lines_free in_loop (line_behind scope frame here t l) ls b.right h.1 w.1 (free_line here t l h.0 q f) b.second))
+        let b = both_right (line_made profile_rules scope frame (jumps_before jumps ls) false here t l) (lines_made profile_rules scope frame jumps (line_behind scope frame here t l) ls) appended ss e in
+        neither (use_at name l) (chosen (hides name l) None (use_along name ls None)) (line_free (jumps_before jumps ls) false here t l b.left h.0 w.0 f b.first)
+        (unless (hides name l) (use_along name ls None) (λ q. lines_free jumps (line_behind scope frame here t l) ls b.right h.1 w.1 (free_line here t l h.0 q f) b.second))
+
+    -- each clause in front of those behind it
+    clauses_free : (jumps : Jumps) (here : Here) (at : Tested) (seen : List CaseLabel) (cs : Clauses) (ms : List MadeClause) → AreProperClauses cs → AreWholeClauses cs → IsFree here → clauses_made profile_rules scope frame jumps here at seen cs ≡ Right ms → use_in_clauses name cs ≡ None
+    clauses_free jumps here at seen Clauses.NoPart ms h w f e = refl
+    clauses_free jumps here at seen (Clauses.Part labels ls cs) ms h w f e =
+        let there : Here = left here (lines_behind scope frame (entered here) ls) in
+        let made = lines_made profile_rules scope frame jumps (entered here) ls in
+        let checked = labels_made scope here.names at.kind seen labels in
+        let body = demand (clause_place at.place labels) Mismatch (ends ls (is_last cs)) made in
+        let all = both_right (both checked body (made_clause at.kind)) (clauses_made profile_rules scope frame jumps there at (labels_behind scope here.names at.kind seen labels) cs) appended ms e in
+        let own = both_right checked body (made_clause at.kind) all.left all.first in
+        let right = demand_right (clause_place at.place labels) Mismatch (ends ls (is_last cs)) made own.right own.second in
+        neither (use_along name ls None) (use_in_clauses name cs) (lines_free jumps (entered here) ls own.right h.0.1 w.0 f right.right)
+        (clauses_free jumps there at (labels_behind scope here.names at.kind seen labels) cs all.right h.1 w.1 (ap (λ ns. local_named ns name) (left_keeps here _ (lines_grow scope frame (entered here) ls)) ∙ f) all.second)
 
 -- ---- parameters
 
@@ -363,5 +395,5 @@ bodies_free scope h nodes b name n proper gives plain e =
     let ls : Lines = lines_of nodes in
     let frame : Frame = frame_of scope h in
     let here : Here = first_here scope ls h.params in
-    let c = both_right (declared_locals (lines_behind scope frame here ls).locals) (lines_made profile_rules scope frame false here ls) (body_of (map (parameter_taken ls) h.params)) b e in
-    unless (is_parameter h.params name) (use_along name ls None) (λ q. lines_free scope name gives plain frame false here ls c.right proper (nodes_whole nodes) (first_free scope name ls h.params n q) c.second)
+    let c = both_right (declared_locals (lines_behind scope frame here ls).locals) (lines_made profile_rules scope frame no_jumps here ls) (body_of (map (parameter_taken ls) h.params)) b e in
+    unless (is_parameter h.params name) (use_along name ls None) (λ q. lines_free scope name gives plain frame no_jumps here ls c.right proper (nodes_whole nodes) (first_free scope name ls h.params n q) c.second)

@@ -12,24 +12,21 @@ use Rattle.mdr_source.specs.declared.refusal.Refusal.{Refusal}
 use Rattle.mdr_source.specs.declared.refusal.Refusal.TheVariants as refusals
 use Rattle.mdr_source.specs.Backs.{functions_call_back}
 use Rattle.mdr_source.specs.Sources.{Comes, Judged, Means, typed_tree}
-use Rattle.mdr_source.specs.Unbuilt.{waits}
 use Rattle.mdr_source.proofs.Whose.{come_source}
 use Rattle.mdr_syntax.specs.declared.tree.Tree.{Tree}
-use Rattle.mdr_halves.proofs.Waiting.{waits_same}
 
 -- ---- a tree that is right
 
 -- what is known of the tree of a program
 pub record IsRight (tree : Tree) (program : Program) : Type 0 where
-  pub built : waits tree.items ≡ false
   pub judged : typed_tree tree ≡ Right program
   pub no_back : functions_call_back program.funcs ≡ false
 
 pub source_right : (bytes : List ℕ) (source : Source) → Comes bytes (Ok source) → IsRight source.tree source.program
-source_right bytes source comes = let s = come_source bytes source comes in record { built = s.built; judged = s.judged; no_back = s.no_back }
+source_right bytes source comes = let s = come_source bytes source comes in record { judged = s.judged; no_back = s.no_back }
 
 pub right_moved : (a b : Tree) (program : Program) → unplaced_tree a ≡ unplaced_tree b → IsRight a program → IsRight b program
-right_moved a b program e r = record { built = sym (waits_same a b e) ∙ r.built; judged = right_same program (programs_alike a b e) r.judged; no_back = r.no_back }
+right_moved a b program e r = record { judged = right_same program (programs_alike a b e) r.judged; no_back = r.no_back }
 
 one_right : (c : Checked Program) (p q : Program) → c ≡ Right p → c ≡ Right q → p ≡ q
 one_right c p q d e = cc
@@ -40,7 +37,7 @@ same_program tree p q r s = one_right (typed_tree tree) p q r.judged s.judged
 pub source_means : (bytes : List ℕ) (source : Source) (other : Tree) → Comes bytes (Ok source) → unplaced_tree source.tree ≡ unplaced_tree other → Means other (Ok source.program)
 source_means bytes source other comes e =
     let r = right_moved source.tree other source.program e (source_right bytes source comes) in
-    Means.built r.built (Judged.right source.program r.judged r.no_back (come_source bytes source comes).numbers)
+    Judged.right source.program r.judged r.no_back (come_source bytes source comes).numbers
 
 -- ---- a tree that is refused
 
@@ -56,18 +53,17 @@ IsErr (Ok x) = ⊥
 IsErr (Err e) = Unit {0}
 
 -- by what the rules of types say of both
-judged_moved : (b : Tree) (c : Checked Program) (o : Result Program Refusal) → waits b.items ≡ false → AreAlike c (typed_tree b) → Judged c o → IsErr o → IsRefused b
-judged_moved b c _ w h (Judged.fault f i) e = by c (typed_tree b) refl h i
+judged_moved : (b : Tree) (c : Checked Program) (o : Result Program Refusal) → AreAlike c (typed_tree b) → Judged c o → IsErr o → IsRefused b
+judged_moved b c _ h (Judged.fault f i) e = by c (typed_tree b) refl h i
   where
     by : (c d : Checked Program) → typed_tree b ≡ d → AreAlike c d → IsFirst f c → IsRefused b
     by _ _ k (AreAlike.Rights x) i = absurd i
-    by _ _ k (AreAlike.Wrongs fs gs) i = record { refusal = refusals.Fault (first gs); means = Means.built w (subst (λ (d : Checked Program). Judged d (Err (refusals.Fault (first gs)))) (sym k) (Judged.fault (first gs) (first_is_in gs, first_is_least gs))) }
-judged_moved b c _ w h (Judged.back program is back) e = record { refusal = refusals.Unbuilt; means = Means.built w (Judged.back program (right_same program h is) back) }
-judged_moved b c _ w h (Judged.right program is back few) e = absurd e
+    by _ _ k (AreAlike.Wrongs fs gs) i = record { refusal = refusals.Fault (first gs); means = subst (λ (d : Checked Program). Judged d (Err (refusals.Fault (first gs)))) (sym k) (Judged.fault (first gs) (first_is_in gs, first_is_least gs)) }
+judged_moved b c _ h (Judged.back program is back) e = record { refusal = refusals.Unbuilt; means = Judged.back program (right_same program h is) back }
+judged_moved b c _ h (Judged.right program is back few) e = absurd e
 
 pub refused_moved : (a b : Tree) (o : Result Program Refusal) → unplaced_tree a ≡ unplaced_tree b → Means a o → IsErr o → IsRefused b
-refused_moved a b _ e (Means.unbuilt w) t = record { refusal = refusals.Unbuilt; means = Means.unbuilt (sym (waits_same a b e) ∙ w) }
-refused_moved a b o e (Means.built w j) t = judged_moved b (typed_tree a) o (sym (waits_same a b e) ∙ w) (programs_alike a b e) j t
+refused_moved a b o e j t = judged_moved b (typed_tree a) o (programs_alike a b e) j t
 
 -- ---- not both
 
@@ -81,18 +77,16 @@ judged_once tree program _ r (Judged.back q is back) t =
 judged_once tree program _ r (Judged.right q is back few) t = t
 
 pub not_refused : (tree : Tree) (program : Program) (o : Result Program Refusal) → IsRight tree program → Means tree o → IsErr o → ⊥
-not_refused tree program _ r (Means.unbuilt w) t = not_both w r.built
-not_refused tree program o r (Means.built w j) t = judged_once tree program o r j t
+not_refused tree program o r j t = judged_once tree program o r j t
 
 abbrev pub IsRightOf : Tree → Result Program Refusal → Type 0
 IsRightOf tree (Ok program) = IsRight tree program
 IsRightOf tree (Err e) = Unit {0}
 
-judged_right : (tree : Tree) (o : Result Program Refusal) → waits tree.items ≡ false → Judged (typed_tree tree) o → IsRightOf tree o
-judged_right tree _ w (Judged.fault f i) = tt
-judged_right tree _ w (Judged.back q is back) = tt
-judged_right tree _ w (Judged.right q is back few) = record { built = w; judged = is; no_back = back }
+judged_right : (tree : Tree) (o : Result Program Refusal) → Judged (typed_tree tree) o → IsRightOf tree o
+judged_right tree _ (Judged.fault f i) = tt
+judged_right tree _ (Judged.back q is back) = tt
+judged_right tree _ (Judged.right q is back few) = record { judged = is; no_back = back }
 
 pub meaning_right : (tree : Tree) (o : Result Program Refusal) → Means tree o → IsRightOf tree o
-meaning_right tree _ (Means.unbuilt w) = tt
-meaning_right tree o (Means.built w j) = judged_right tree o w j
+meaning_right tree o j = judged_right tree o j

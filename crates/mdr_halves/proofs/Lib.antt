@@ -1,5 +1,4 @@
 pub mod Placing
-pub mod Waiting
 pub mod Judging
 pub mod Shaping
 pub mod Coming

@@ -16,6 +16,7 @@ pub mod Headings
 pub mod Lines
 pub mod Addresses
 pub mod Locals
+pub mod Labels
 pub mod Statements
 pub mod Initialisers
 pub mod Structs

@@ -112,7 +112,7 @@ again_both first other e m n f (Cons {x = x} {y = y} {xs = xs} {ys = ys} r rs) =
 places_both : (m n : ℕ) → m ≡ n → (x y : List ℕ) → x ≡ y → has_place m x ≡ has_place n y
 places_both m n e x y f = ap (λ k. has_place k x) e ∙ ap (λ (z : List ℕ). has_place n z) f
 
-no_constants : {xs ys : List LocalName} → Pairs AreLocalNames xs ys → {c d : Const} → AreConsts c d → is_no_constant xs c ≡ is_no_constant ys d
+pub no_constants : {xs ys : List LocalName} → Pairs AreLocalNames xs ys → {c d : Const} → AreConsts c d → is_no_constant xs c ≡ is_no_constant ys d
 no_constants h (Numbers p q b n k) = refl
 no_constants h (Worded p q name) = perhaps_some (local_alike name h)
 

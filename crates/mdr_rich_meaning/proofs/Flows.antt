@@ -12,6 +12,7 @@ use Rattle.mdr_core.specs.Layout.{chosen, zero_value}
 use Rattle.mdr_core.specs.Typing.{Slot}
 use Rattle.mdr_meaning.specs.declared.shape.Shape64.{Shape64}
 use Rattle.mdr_meaning.specs.declared.wire.Wire.{Wire}
+use Rattle.mdr_meaning.specs.Expressions.{slot_of}
 use Rattle.mdr_meaning.specs.Lives.{births, births_by, deaths, ends, in_block, shape_of}
 use Rattle.mdr_meaning.specs.Sides.{Flow, Ends, Breaks, Continues, Returns, Go, Locals, Next, in_here}
 use Rattle.mdr_meaning.specs.Statements.{around, declared, declared_by, leaves, on_ends, turn as plain_turn}
@@ -35,6 +36,10 @@ module _ (b : Both) where
   -- two ways through statements
   pub record Same (g h : Go) : Type 0 where
     pub by : (t u born : List Wire) (k K : Next) → See t u → Nexts k K → g (with t born) k ≡ h (with u born) K
+
+  -- and two that are alike where slot i of the lowered function holds v
+  pub record SameWhere (i : ℕ) (v : Wire) (g h : Go) : Type 0 where
+    pub by : (t u born : List Wire) (k K : Next) → See t u → slot_of u i ≡ v → Nexts k K → g (with t born) k ≡ h (with u born) K
 
   -- ---- births and deaths look at no bodies
 

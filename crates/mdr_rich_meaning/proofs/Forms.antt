@@ -49,7 +49,7 @@ use Rattle.mdr_rich.specs.Code.{Term, Lvalue, Called, Terms}
 use Rattle.mdr_rich_meaning.specs.Expressions.{Arguments, RichSide, RichMeans, arguments, asked_by, called, calls, is_taken, prep, prep_args, prep_callee, prep_place, rich_direct, rich_through}
 use Rattle.mdr_rich_meaning.specs.Waiting.{Ready, Prep, as_kind, at_element, both, bumped, by_steps, calculated, choice, conjoined, disjoined, either, joined, kept, literal, loaded, made, more, negated, none, now, one, part, step_operator, stepped_by, stores, storing, taken, truly, two}
 use Rattle.mdr_rich_meaning.proofs.Bounds.{NamesIn, NamesPlace, NamesCalled, NamesAll}
-use Rattle.mdr_rich_meaning.proofs.Preparing.{Both, Goes, N, P, S, Ticks, V, Way, all_valued, assign_step, goes_armed, goes_as, goes_kept, goes_map, goes_now, goes_slot, goes_then, into_same, one_stmt, placed, ready_kept, rich_side, side, slot_valued, stmts_both, there, valued, way_now, way_taken}
+use Rattle.mdr_rich_meaning.proofs.Preparing.{Begins, Both, Goes, N, P, S, Ticks, V, Way, all_valued, assign_step, begins_armed, goes_armed, goes_as, goes_kept, goes_map, goes_now, goes_slot, goes_then, into_same, one_stmt, placed, ready_kept, rich_side, side, slot_valued, stmts_both, there, valued, way_now, way_taken}
 use Rattle.mdr_rich_meaning.proofs.Slots.{with, Fits, IsCounted, IsReady, Near, Sees, answered, near_fewer, near_new, near_refl, near_source, near_then, ready_later, sees_new, sees_source, slot_after, slot_back, slot_before, slot_counted, slot_less, slot_stands}
 
 -- a direct call does the same on both sides
@@ -115,16 +115,16 @@ module _ (b : Both) where
 
   -- ---- what waits
 
-  ready_as : (d : ℕ) (u : List Wire) (r e f : Ready Wire) → e ≡ f → R d u r e → R d u r f
+  pub ready_as : (d : ℕ) (u : List Wire) (r e f : Ready Wire) → e ≡ f → R d u r e → R d u r f
   ready_as d u r e f is h = subst (R d u r) is h
 
-  ready_literal : (v : Wire) (d : ℕ) (u : List Wire) → R d u (literal v) (literal v)
+  pub ready_literal : (v : Wire) (d : ℕ) (u : List Wire) → R d u (literal v) (literal v)
   ready_literal v d u = record { by = λ at t u1 sees near k. refl }
 
   ready_one : (f : Wire → Result Wire StopKind) (e : Ready Wire) (d : ℕ) (u : List Wire) (r : Ready Wire) → R d u r e → R d u (one f r) (one f e)
   ready_one f e d u r ready = record { by = λ at t u1 sees near k. ready.by at t u1 sees near (λ x. given at (f x) k) }
 
-  ready_two : (f : Wire → Wire → Result Wire StopKind) (ea eb : Ready Wire) (d : ℕ) (u : List Wire) (ra rb : Ready Wire) → R d u ra ea → R d u rb eb → R d u (two f ra rb) (two f ea eb)
+  pub ready_two : (f : Wire → Wire → Result Wire StopKind) (ea eb : Ready Wire) (d : ℕ) (u : List Wire) (ra rb : Ready Wire) → R d u ra ea → R d u rb eb → R d u (two f ra rb) (two f ea eb)
   ready_two f ea eb d u ra rb x y = record {
     by = λ at t u1 sees near k. x.by at t u1 sees near _ ∙ ap (ea at u1) (fun_ext (λ v. y.by at t u1 sees near (λ w. given at (f v w) k)));
   }
@@ -143,7 +143,7 @@ module _ (b : Both) where
         x.by at t u1 sees near _ ∙ ap (ea at u1) (fun_ext (λ v. first_same (rb at t) (eb at u1) (y.by at t u1 sees near) (is_true v) (truth_of false) (λ z. k (truth_of (is_true z)))));
   }
 
-  ready_either : (ea eb : Ready Wire) (d : ℕ) (u : List Wire) (ra rb : Ready Wire) → R d u ra ea → R d u rb eb → R d u (either ra rb) (either ea eb)
+  pub ready_either : (ea eb : Ready Wire) (d : ℕ) (u : List Wire) (ra rb : Ready Wire) → R d u ra ea → R d u rb eb → R d u (either ra rb) (either ea eb)
   ready_either ea eb d u ra rb x y = record {
     by = λ at t u1 sees near k.
         x.by at t u1 sees near _ ∙ ap (ea at u1) (fun_ext (λ v. second_same (rb at t) (eb at u1) (y.by at t u1 sees near) (is_true v) (truth_of true) (λ z. k (truth_of (is_true z)))));
@@ -159,8 +159,11 @@ module _ (b : Both) where
 
   -- ---- forms of one part and of two
 
-  valued_is : (e : Expr) (t : PlainTerm) → term_of e ≡ t → V b e ≡ valued b.known t
+  pub valued_is : (e : Expr) (t : PlainTerm) → term_of e ≡ t → V b e ≡ valued b.known t
   valued_is e t is = ap (valued b.known) is
+
+  pub ready_or : (x y : Expr) (d : ℕ) (u : List Wire) (rx ry : Ready Wire) → R d u rx (V b x) → R d u ry (V b y) → R d u (either rx ry) (V b (expr.Or x y))
+  ready_or x y d u rx ry hx hy = ready_as d u (either rx ry) (either (V b x) (V b y)) (V b (expr.Or x y)) (sym (valued_is (expr.Or x y) (PlainTerm.Or (term_of x) (term_of y)) (or_is x y))) (ready_either (V b x) (V b y) d u rx ry hx hy)
 
   goes_one : (f : Wire → Result Wire StopKind) (g : Expr → Expr) → ((e : Expr) → V b (g e) ≡ one f (V b e)) → (p : Prep Wire) (w : Work) (x : Work × Expr) → G p w x → G (made (one f) p) w (mapped g x)
   goes_one f g is p w x h = goes_as b Wire (made (one f) p) w x.0 (one f (V b x.1)) (V b (g x.1)) (sym (is x.1)) (goes_map b Wire Wire p (one f) w x.0 (V b x.1) (ready_one f (V b x.1)) h)
@@ -189,7 +192,7 @@ module _ (b : Both) where
   goes_truth p w x h = goes_as b Wire (made truly p) w x.0 (truly (V b x.1)) (V b (truth x.1)) (sym (truth_valued x.1))
       (goes_map b Wire Wire p truly w x.0 (V b x.1) (λ d u r ready. ready_one negated (one negated (V b x.1)) d u (one negated r) (ready_one negated (V b x.1) d u r ready)) h)
 
-  module _ (n : ℕ) (pa pb : Prep Wire) (w : Work) (x : Work × Expr) (y : Work → Work × Expr) (h : G pa w x) (k : (v : Work) → G pb v (y v)) where
+  module _ (n : ℕ) (pb : Prep Wire) (x : Work × Expr) (y : Work → Work × Expr) (k : (v : Work) → G pb v (y v)) where
     abbrev first : Work × Expr
     first = kept_low n (type.Int S32) (mapped truth x)
 
@@ -199,9 +202,6 @@ module _ (b : Both) where
     abbrev last : Work
     last = arm n x.0.next second
 
-    goes_first : G (taken b.here n (made truly pa)) w first
-    goes_first = goes_kept b n (type.Int S32) (made truly pa) w (mapped truth x) (goes_truth pa w x h)
-
     goes_second : G (made truly pb) (inside first.0) second
     goes_second = goes_truth pb (inside first.0) (y (inside first.0)) (k (inside first.0))
 
@@ -210,13 +210,36 @@ module _ (b : Both) where
         (λ c. slot_after (N b) b.all x.0 (slot_before (N b) b.all (type.Int S32) x.0 c))
         (λ c f. slot_less (N b) b.all (type.Int S32) x.0 (slot_before (N b) b.all (type.Int S32) x.0 c) (goes_second.back (back f))) (omega arith) (omega (arith, goes_second.grows, grows)) goes_second
 
-    goes_conjoined : G (conjoined b.here n pa pb) w (conjoined_low n x y)
-    goes_conjoined = goes_armed b n x.0.next (taken b.here n (made truly pa)) w first (λ r. taken b.here n (made truly pb)) (λ r. now r) last (inside last) h.grows goes_first
-        (λ f. goes_second.back f) (λ c. goes_second.counted c) goes_second.grows (way_second (inside last) (λ f. f) (omega arith)) (way_now b x.0.next first.0 (inside last) goes_second.grows)
+    module _ (pa : Prep Wire) (w : Work) (h : G pa w x) where
+      goes_first : G (taken b.here n (made truly pa)) w first
+      goes_first = goes_kept b n (type.Int S32) (made truly pa) w (mapped truth x) (goes_truth pa w x h)
 
-    goes_disjoined : G (disjoined b.here n pa pb) w (disjoined_low n x y)
-    goes_disjoined = goes_armed b n x.0.next (taken b.here n (made truly pa)) w first (λ r. now r) (λ r. taken b.here n (made truly pb)) (inside first.0) last h.grows goes_first
-        (λ f. goes_second.back f) (λ c. goes_second.counted c) goes_second.grows (way_now b x.0.next first.0 last goes_second.grows) (way_second last (λ f. f) (omega arith))
+      goes_conjoined : G (conjoined b.here n pa pb) w (conjoined_low n x y)
+      goes_conjoined = goes_armed b n x.0.next (taken b.here n (made truly pa)) w first (λ r. taken b.here n (made truly pb)) (λ r. now r) last (inside last) h.grows goes_first
+          (λ f. goes_second.back f) (λ c. goes_second.counted c) goes_second.grows (way_second (inside last) (λ f. f) (omega arith)) (way_now b x.0.next first.0 (inside last) goes_second.grows)
+
+      goes_disjoined : G (disjoined b.here n pa pb) w (disjoined_low n x y)
+      goes_disjoined = goes_armed b n x.0.next (taken b.here n (made truly pa)) w first (λ r. now r) (λ r. taken b.here n (made truly pb)) (inside first.0) last h.grows goes_first
+          (λ f. goes_second.back f) (λ c. goes_second.counted c) goes_second.grows (way_now b x.0.next first.0 last goes_second.grows) (way_second last (λ f. f) (omega arith))
+
+    pub disjoined_back : Fits (N b) b.all (disjoined_low n x y).0 → Fits (N b) b.all x.0
+    disjoined_back f = slot_back (N b) b.all (type.Int S32) x.0 (goes_second.back f)
+
+    pub disjoined_counted : IsCounted (N b) b.all x.0 → IsCounted (N b) b.all (disjoined_low n x y).0
+    disjoined_counted c = goes_second.counted (slot_counted (N b) b.all (type.Int S32) x.0 c)
+
+    -- where the left operand stands ready at certain slots
+    pub begins_disjoined : (r : Ready Wire) (t u born : List Wire) → IsCounted (N b) b.all x.0 → Fits (N b) b.all (disjoined_low n x y).0 → Sees (N b) b.all t u → R x.0.next u r (V b x.1)
+        → Begins b Wire (disjoined b.here n (now r) pb) x.0 (disjoined_low n x y).0 (V b (disjoined_low n x y).1) (stmt n (step.Assign (lval.Slot x.0.next) (truth x.1)) ∷ stmt n (step.If first.1 [] last.code) ∷ []) t u born
+    begins_disjoined r t u born c f sees ready =
+        let i : ℕ = x.0.next in
+        let new : N b ≤ i = slot_after (N b) b.all x.0 c in
+        let less : i < length b.all = slot_less (N b) b.all (type.Int S32) x.0 c (goes_second.back f) in
+        begins_armed b n i (taken b.here n (made truly (now r))) x.0 first (stmt n (step.Assign (lval.Slot i) (truth x.1)) ∷ []) (λ r1. now r1) (λ r1. taken b.here n (made truly pb)) (inside first.0) last t u born (omega arith) (slot_counted (N b) b.all (type.Int S32) x.0 c) f
+        (λ j J h. into_same b n i i (truth x.1) (truly r) t u born j J
+        (ready_as i u (truly r) (truly (V b x.1)) (V b (truth x.1)) (sym (truth_valued x.1)) (ready_one negated (one negated (V b x.1)) i u (one negated r) (ready_one negated (V b x.1) i u r ready))) sees
+        (λ v. h (kept v) t (slice_set u i v) (sees_new (N b) b.all i v new sees) (near_new (N b) b.all i i u v (omega arith)) (ready_kept b (i + 1) i u v new (omega arith) (omega (arith, less, sees.rooms)))))
+        (way_now b i first.0 last goes_second.grows) (way_second last (λ g. g) (omega arith))
 
   goes_choice : (n : ℕ) (t : Ty) (pc pa pb : Prep Wire) (w : Work) (x : Work × Expr) (y z : Work → Work × Expr) → G pc w x → ((v : Work) → G pa v (y v)) → ((v : Work) → G pb v (z v)) → G (choice b.here n pc pa pb) w (choice_low n t x y z)
   goes_choice n t pc pa pb w x y z h ky kz =
@@ -293,7 +316,7 @@ module _ (b : Both) where
     by false = ready_as d u (one (λ x. Ok (wire.Int l (converted l (integer x)))) r) (one (λ x. Ok (wire.Int l (converted l (integer x)))) (V b e)) (V b (expr.Conv l e)) (sym (valued_is (expr.Conv l e) (PlainTerm.Conv l (term_of e)) (conv_is l e)))
         (ready_one (λ x. Ok (wire.Int l (converted l (integer x)))) (V b e) d u r ready)
 
-  literal_valued : (v : Value) → V b (expr.Lit v) ≡ literal (wire_of v)
+  pub literal_valued : (v : Value) → V b (expr.Lit v) ≡ literal (wire_of v)
   literal_valued v = valued_is (expr.Lit v) (PlainTerm.Lit v) (lit_is v)
 
   operator_same : (up : Bool) → step_operator up ≡ operator_low up
@@ -543,11 +566,11 @@ module _ (b : Both) where
           (part_low (keeps (is_active y) x) n (type_of x) (low n x w)) (low n y) (goes_part (is_taken (is_active y) x) n (type_of x) (prep rs rl b.here n x) w (low n x w) (form_goes x names.0 w)) (λ v. form_goes y names.1 v)
       form_goes (Term.And x y) names w =
           goes_chosen (V b) (is_active y) (conjoined b.here n (prep rs rl b.here n x) (prep rs rl b.here n y)) (joined both (prep rs rl b.here n x) (prep rs rl b.here n y)) w (conjoined_low n (low n x w) (low n y)) (two_low expr.And (low n x w) (low n y))
-          (goes_conjoined n (prep rs rl b.here n x) (prep rs rl b.here n y) w (low n x w) (low n y) (form_goes x names.0 w) (λ v. form_goes y names.1 v))
+          (goes_conjoined n (prep rs rl b.here n y) (low n x w) (low n y) (λ v. form_goes y names.1 v) (prep rs rl b.here n x) w (form_goes x names.0 w))
           (goes_two both expr.And (λ a c. valued_is (expr.And a c) (PlainTerm.And (term_of a) (term_of c)) (and_is a c)) ready_both (prep rs rl b.here n x) (prep rs rl b.here n y) w (low n x w) (low n y) (form_goes x names.0 w) (λ v. form_goes y names.1 v))
       form_goes (Term.Or x y) names w =
           goes_chosen (V b) (is_active y) (disjoined b.here n (prep rs rl b.here n x) (prep rs rl b.here n y)) (joined either (prep rs rl b.here n x) (prep rs rl b.here n y)) w (disjoined_low n (low n x w) (low n y)) (two_low expr.Or (low n x w) (low n y))
-          (goes_disjoined n (prep rs rl b.here n x) (prep rs rl b.here n y) w (low n x w) (low n y) (form_goes x names.0 w) (λ v. form_goes y names.1 v))
+          (goes_disjoined n (prep rs rl b.here n y) (low n x w) (low n y) (λ v. form_goes y names.1 v) (prep rs rl b.here n x) w (form_goes x names.0 w))
           (goes_two either expr.Or (λ a c. valued_is (expr.Or a c) (PlainTerm.Or (term_of a) (term_of c)) (or_is a c)) ready_either (prep rs rl b.here n x) (prep rs rl b.here n y) w (low n x w) (low n y) (form_goes x names.0 w) (λ v. form_goes y names.1 v))
       form_goes (Term.Conv k e) names w = goes_one (λ x. Ok (wire.Int k (converted k (integer x)))) (expr.Conv k) (λ d. valued_is (expr.Conv k d) (PlainTerm.Conv k (term_of d)) (conv_is k d)) (prep rs rl b.here n e) w (low n e w) (form_goes e names w)
       form_goes (Term.ToVoid e) names w =

@@ -28,9 +28,10 @@ use Rattle.mdr_rich_meaning.specs.Expressions.{RichBody, RichSide, rich_deep, ri
 use Rattle.mdr_rich_meaning.specs.Law.{IsLoweredBody, LoweringKeepsTrees, lowered_body}
 use Rattle.mdr_rich_meaning.proofs.Flows.{births_same, dead, next_leaves}
 use Rattle.mdr_rich_meaning.proofs.Forms.{CallsAlike}
-use Rattle.mdr_rich_meaning.proofs.Lines.{IsLoop, LoopsAlike, body_runs, plain_same, tested_same}
+use Rattle.mdr_rich_meaning.proofs.Lines.{IsAgain, IsLoop, LoopsAlike, active_again, body_runs, plain_same, quiet_again, tested_same}
 use Rattle.mdr_rich_meaning.proofs.Named.{Framed, KnowsTypes}
 use Rattle.mdr_rich_meaning.proofs.Preparing.{Both, S, side, there}
+use Rattle.mdr_rich_meaning.proofs.Turns.{flag_wire}
 use Rattle.mdr_rich_meaning.proofs.Slots.{with, AreNext, Sees, fit_behind, framed_room, framed_same, get_front, sees_source}
 
 -- ---- parameters that are objects: new slots are none
@@ -174,12 +175,35 @@ module _ (program : Program) (known : Numbered) (asks : Bool) (rown : ℕ → Op
         (tested_same b f program (knows n here all) here.result l m e xs ys in_loop v typed active counted room (body_runs b f program (knows n here all) here.result l xs false typed.stepped) (body_runs b f program (knows n here all) here.result l ys true typed.turn)).by
         t u born (on_ends leaves k) (on_ends (S b []) K) sees (next_leaves b next)
 
+    again_means : (here : Here) (all : List Slot) → length here.slots ≤ length all → ((i : ℕ) → i < length here.slots → slice_get here.slots i ≡ slice_get all i) → (i : ℕ) (c : Code) (d : PlainCode) → IsAgain (at_fuel (suc n) here all) program here.result i c d
+        → (t u born : List Wire) (k K : Next) → Sees (length here.slots) all t u → slot_of u i ≡ flag_wire false → AreNext (length here.slots) all k K
+        → rich_means rich (suc n) here (Codes.Then c Codes.End) (with t born) k ≡ means plain (suc n) (there (at_fuel (suc n) here all)) (PlainCodes.Then d PlainCodes.End) (with u born) K
+    unfolding rich_means means
+    again_means here all fits same i c d (IsAgain.Quiet m e ys in_loop v typed quiet counted new less stands room) t u born k K sees holds next =
+        let b : Both = at_fuel n here all in
+        let f : Framed b = framed_at here all fits same in
+        let l : LoopsAlike b program here.result = alike.loops here all fits same in
+        (quiet_again b f program (knows n here all) here.result l false m i e ys in_loop v typed quiet counted new less stands room (body_runs b f program (knows n here all) here.result l ys true typed.turn)).by
+        t u born (on_ends leaves k) (on_ends (S b []) K) sees holds (next_leaves b next)
+    again_means here all fits same i c d (IsAgain.Active m e ys in_loop a typed active counted new less stands room) t u born k K sees holds next =
+        let b : Both = at_fuel n here all in
+        let f : Framed b = framed_at here all fits same in
+        let l : LoopsAlike b program here.result = alike.loops here all fits same in
+        (active_again b f program (knows n here all) here.result l false m i e ys in_loop a typed active counted new less stands room (body_runs b f program (knows n here all) here.result l ys true typed.turn)).by
+        t u born (on_ends leaves k) (on_ends (S b []) K) sees holds (next_leaves b next)
+
   all_alike : (n : ℕ) → Alike n
   unfolding rich_means means
-  all_alike zero = record { bodies = λ here ss typed t u born k K sees next. refl; loops = λ here all fits same. record { by = λ c d h. record { by = λ t u born k K sees next. refl } } }
+  all_alike zero = record {
+    bodies = λ here ss typed t u born k K sees next. refl;
+    loops = λ here all fits same. record { by = λ c d h. record { by = λ t u born k K sees next. refl }; again = λ i c d h. record { by = λ t u born k K sees holds next. refl } };
+  }
   all_alike (suc n) = record {
     bodies = bodies_mean n (all_alike n);
-    loops = λ here all fits same. record { by = λ c d h. record { by = λ t u born k K sees next. loops_mean n (all_alike n) here all fits same c d h t u born k K sees next } };
+    loops = λ here all fits same. record {
+      by = λ c d h. record { by = λ t u born k K sees next. loops_mean n (all_alike n) here all fits same c d h t u born k K sees next };
+      again = λ i c d h. record { by = λ t u born k K sees holds next. again_means n (all_alike n) here all fits same i c d h t u born k K sees holds next };
+    };
   }
 
   started_same : (n f : ℕ) (args : List Wire) (depth : ℕ) (below : Tree) → rich_started rich n f args depth below ≡ started plain n f args depth below

@@ -5,6 +5,8 @@ pub mod Forms
 pub mod Quiet
 pub mod Named
 pub mod Flows
+pub mod Turns
+pub mod Switches
 pub mod Lines
 pub mod Keeps
 pub mod WorkedProofs

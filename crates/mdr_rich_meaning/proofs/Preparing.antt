@@ -215,6 +215,26 @@ module _ (b : Both) where
       → ((r1 : Ready Wire) (t1 u1 : List Wire) → Sees N b.all t1 u1 → Near N b.all i u u1 → IsReady N b.all Wire behind.next u1 r1 (V (slot_value i)) → k r1 t1 ≡ E Ends (with u1 []))
       → q r t k ≡ S code (with u []) E
 
+  -- where the test stands ready at certain slots: what is done before it, and then one of the two ways
+  abbrev pub Begins : (A : Type 0) → Prep A → (from behind : Work) → Ready A → List Stmt → (t u born : List Wire) → Type 0
+  Begins A p from behind e code t u born = (k : Ready A → List Wire → Tree) (K : Next)
+      → ((r : Ready A) (t1 u1 : List Wire) → Sees N b.all t1 u1 → Near N b.all from.next u u1 → IsReady N b.all A behind.next u1 r e → k r t1 ≡ K Ends (with u1 born))
+      → p t k ≡ S code (with u born) K
+
+  pub begins_armed : (n i : ℕ) (p : Prep Wire) (w : Work) (x : Work × Expr) (code : List Stmt) (one other : Ready Wire → Prep Wire) (a d : Work) (t u born : List Wire) → w.next ≤ i → IsCounted N b.all x.0 → Fits N b.all d
+      → Begins Wire p w x.0 (V x.1) code t u born → Way i x.1 x.0 d one a.code → Way i x.1 x.0 d other d.code → Begins Wire (branching n p one other) w d (V (slot_value i)) (code ++ stmt n (step.If x.1 a.code d.code) ∷ []) t u born
+  begins_armed n i p w x code one other a d t u born first c f front left right k K h =
+      front (λ r s1. tick b.here n (λ at. r at s1 (λ y. chosen (is_true y) (one r) (other r) s1 k))) (on_ends (S (stmt n (step.If x.1 a.code d.code) ∷ [])) K)
+      (λ r t1 u1 sees1 near1 ready1. ap (Ticks n) (answered N b.all ready1 (in_here b.here n) t1 sees1 _ _
+      (λ y. ways r t1 u1 sees1 ready1 (λ r1 t2 u2 sees2 near2 ready2. h r1 t2 u2 sees2 (near_then N b.all near1 (near_fewer N b.all first near2)) ready2) (is_true y)))
+      ∙ sym (if_step n x.1 a.code d.code (with u1 born) K))
+      ∙ sym (stmts_both code (stmt n (step.If x.1 a.code d.code) ∷ []) K (with u born)) where
+        ways : (r : Ready Wire) (t1 u1 : List Wire) → Sees N b.all t1 u1 → IsReady N b.all Wire x.0.next u1 r (V x.1)
+            → ((r1 : Ready Wire) (t2 u2 : List Wire) → Sees N b.all t2 u2 → Near N b.all i u1 u2 → IsReady N b.all Wire d.next u2 r1 (V (slot_value i)) → k r1 t2 ≡ K Ends (with u2 born))
+            → (c : Bool) → chosen c (one r) (other r) t1 k ≡ in_block (side b) (there b) (chosen c (S a.code) (S d.code)) (with u1 born) (on_ends (S []) K)
+        ways r t1 u1 sees1 ready1 h true = left r t1 u1 c f sees1 ready1 k (ends (side b) (there b) born (on_ends (S []) K)) h
+        ways r t1 u1 sees1 ready1 h false = right r t1 u1 c f sees1 ready1 k (ends (side b) (there b) born (on_ends (S []) K)) h
+
   pub goes_armed : (n i : ℕ) (p : Prep Wire) (w : Work) (x : Work × Expr) (one other : Ready Wire → Prep Wire) (a d : Work) → w.next ≤ i → Goes Wire p w x.0 (V x.1)
       → (Fits N b.all d → Fits N b.all x.0) → (IsCounted N b.all x.0 → IsCounted N b.all d) → x.0.next ≤ d.next → Way i x.1 x.0 d one a.code → Way i x.1 x.0 d other d.code
       → Goes Wire (branching n p one other) w (armed n i x.1 x.0 a d).0 (V (slot_value i))
@@ -224,18 +244,8 @@ module _ (b : Both) where
     grows = omega (arith, g.grows, grows);
     more = g.more ++ stmt n (step.If x.1 a.code d.code) ∷ [];
     code = ap (λ c. c ++ stmt n (step.If x.1 a.code d.code) ∷ []) g.code ∙ append_assoc w.code g.more (stmt n (step.If x.1 a.code d.code) ∷ []);
-    by = λ c f t u born k K sees h.
-        g.by c (back f) t u born (λ r s1. tick b.here n (λ at. r at s1 (λ y. chosen (is_true y) (one r) (other r) s1 k))) (on_ends (S (stmt n (step.If x.1 a.code d.code) ∷ [])) K) sees
-        (λ r t1 u1 sees1 near1 ready1. ap (Ticks n) (answered N b.all ready1 (in_here b.here n) t1 sees1 _ _
-        (λ y. ways c f born k K r t1 u1 sees1 ready1 (λ r1 t2 u2 sees2 near2 ready2. h r1 t2 u2 sees2 (near_then N b.all near1 (near_fewer N b.all first near2)) ready2) (is_true y)))
-        ∙ sym (if_step n x.1 a.code d.code (with u1 born) K))
-        ∙ sym (stmts_both g.more (stmt n (step.If x.1 a.code d.code) ∷ []) K (with u born));
-  } where
-    ways : IsCounted N b.all w → Fits N b.all d → (born : List Wire) (k : Ready Wire → List Wire → Tree) (K : Next) (r : Ready Wire) (t1 u1 : List Wire) → Sees N b.all t1 u1 → IsReady N b.all Wire x.0.next u1 r (V x.1)
-        → ((r1 : Ready Wire) (t2 u2 : List Wire) → Sees N b.all t2 u2 → Near N b.all i u1 u2 → IsReady N b.all Wire d.next u2 r1 (V (slot_value i)) → k r1 t2 ≡ K Ends (with u2 born))
-        → (c : Bool) → chosen c (one r) (other r) t1 k ≡ in_block (side b) (there b) (chosen c (S a.code) (S d.code)) (with u1 born) (on_ends (S []) K)
-    ways c f born k K r t1 u1 sees1 ready1 h true = left r t1 u1 (g.counted c) f sees1 ready1 k (ends (side b) (there b) born (on_ends (S []) K)) h
-    ways c f born k K r t1 u1 sees1 ready1 h false = right r t1 u1 (g.counted c) f sees1 ready1 k (ends (side b) (there b) born (on_ends (S []) K)) h
+    by = λ c f t u born k K sees h. begins_armed n i p w x g.more one other a d t u born first (g.counted c) f (λ j J more. g.by c (back f) t u born j J sees more) left right k K h;
+  }
 
   -- a value is taken into the slot
   pub way_taken : (n i : ℕ) (e : Expr) (front from behind : Work) (p : Prep Wire) (y : Work × Expr) → (IsCounted N b.all front → IsCounted N b.all from) → (Fits N b.all behind → Fits N b.all y.0) → (IsCounted N b.all front → N ≤ i)

@@ -9,7 +9,7 @@ use Rattle.mdr_core.specs.Operators.{operated, fitted, fitted_or, quotient, nega
 use Rattle.mdr_meaning.specs.Expressions.{slot_of}
 use Rattle.mdr_meaning.specs.Pointers.{size}
 use Rattle.mdr_rich_meaning.specs.Bodies.{rich_means, rich_started}
-use Rattle.mdr_rich_meaning.specs.Worked.{CallsStandAlone, LoopsTurn, PartsAreTaken, PlacesAreTaken, ValuesAreRight}
+use Rattle.mdr_rich_meaning.specs.Worked.{CallsAreRight, CallsStandAlone, DoTurns, KeptValuesAreRead, LoopsAreRight, LoopsTurn, PartsAreTaken, PlacesAreTaken, SwitchTries, ValuesAreRight}
 
 pub parts_are_taken : PartsAreTaken
 unfolding rich_means rich_started slot_of operated fitted fitted_or quotient negated flipped converted promoted is_in_range size cells struct_cells leaves_below field_leaves field_start repeated leaves form.out-Ty denote.Hole.Carrier.out
@@ -30,3 +30,23 @@ loops_turn = refl
 pub values_are_right : ValuesAreRight
 unfolding rich_means rich_started slot_of operated fitted fitted_or quotient converted promoted is_in_range size cells struct_cells leaves_below field_leaves field_start repeated leaves form.out-Ty denote.Hole.Carrier.out
 values_are_right = (refl, refl, refl)
+
+pub do_turns : DoTurns
+unfolding rich_means rich_started slot_of operated fitted fitted_or quotient converted promoted is_in_range size cells struct_cells leaves_below field_leaves field_start repeated leaves form.out-Ty denote.Hole.Carrier.out
+do_turns = (refl, refl, refl, refl, refl, refl)
+
+pub switch_tries : SwitchTries
+unfolding rich_means rich_started slot_of operated fitted fitted_or quotient converted promoted is_in_range size cells struct_cells leaves_below field_leaves field_start repeated leaves form.out-Ty denote.Hole.Carrier.out
+switch_tries = (refl, refl, refl, refl, refl, refl, refl, refl, refl)
+
+pub calls_are_right : CallsAreRight
+unfolding rich_means rich_started slot_of operated fitted fitted_or quotient converted promoted is_in_range size cells struct_cells leaves_below field_leaves field_start repeated leaves form.out-Ty denote.Hole.Carrier.out
+calls_are_right = refl
+
+pub loops_are_right : LoopsAreRight
+unfolding rich_means rich_started slot_of operated fitted fitted_or quotient converted promoted is_in_range size cells struct_cells leaves_below field_leaves field_start repeated leaves form.out-Ty denote.Hole.Carrier.out
+loops_are_right = refl
+
+pub kept_values_are_read : KeptValuesAreRead
+unfolding rich_means rich_started slot_of operated fitted fitted_or quotient converted promoted is_in_range size cells struct_cells leaves_below field_leaves field_start repeated leaves form.out-Ty denote.Hole.Carrier.out
+kept_values_are_read = refl

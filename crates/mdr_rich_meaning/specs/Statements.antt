@@ -1,7 +1,11 @@
 -- for proofs
 -- The meaning of a source's statements (C99 6.7, 6.8): what takes ticks of its own in their expressions is done first, and the statement's own tick comes last.
-use Rattle.std.specs.Prelude.{ℕ, List, Option, Some, None, slice_get}
+use Rattle.std.specs.Prelude.{ℕ, Bool, true, false, pos, List, Option, Some, None, slice_get}
+use Rattle.mdr_core.specs.declared.kind.Kind.TheVariants.{S32}
 use Rattle.mdr_core.specs.declared.place.At.{At}
+use Rattle.mdr_core.specs.declared.value.Value.{Value}
+use Rattle.mdr_core.specs.declared.value.Value.TheVariants as value
+use Rattle.mdr_core.specs.Code.{Way}
 use Rattle.mdr_core.specs.Layout.{chosen}
 use Rattle.mdr_meaning.specs.declared.wire.Wire.{Wire}
 use Rattle.mdr_meaning.specs.declared.wire.Wire.TheVariants as wire
@@ -13,12 +17,25 @@ use Rattle.mdr_meaning.specs.Statements.{around, characters, declared, leaves, o
 use Rattle.mdr_meaning.specs.Values.{is_true}
 use Rattle.mdr_rich.specs.Activity.{is_active, is_active_place, are_active}
 use Rattle.mdr_rich.specs.Carried.{type_at}
-use Rattle.mdr_rich.specs.Code.{Term, Lvalue, CallOf, Goal, Code, Codes, term_list}
-use Rattle.mdr_rich_meaning.specs.Waiting.{Ready, Prep, literal, joined, now, part, stores, tick}
+use Rattle.mdr_rich.specs.Code.{Term, Lvalue, CallOf, Goal, Code, Codes, Clauses, term_list}
+use Rattle.mdr_rich_meaning.specs.Waiting.{Ready, Prep, equals_one, literal, joined, now, part, stores, tick}
 use Rattle.mdr_rich_meaning.specs.Expressions.{RichSide, RichMeans, Arguments, arguments, is_taken, calls, prep, prep_place, prep_callee, prep_args, without_bodies}
 
 abbrev pub with_slots : List Wire → Locals → Locals
 with_slots s l = record { slots = s; born = l.born }
+
+-- ---- `do S while (e);` is `for (t = 1; t || e; t = 0) S` (6.8.5.2). Nothing else reads t, so a literal stands for it
+
+abbrev pub flag : (first : Bool) → Value
+flag true = value.Int S32 (pos 1)
+flag false = value.Int S32 (pos 0)
+
+abbrev pub do_test : (first : Bool) → Term → Term
+do_test first e = Term.Or (Term.Lit (flag first)) e
+
+-- its later turns
+abbrev pub do_again : (number : ℕ) → (body : Codes) → Term → Code
+do_again n body e = Code.Loop n (do_test false e) (Codes.Then (Code.Jump n Way.Ends) Codes.End) body
 
 -- no code that comes later
 abbrev pub nothing_later : Means
@@ -58,16 +75,20 @@ module _ (side : RichSide) (low : RichMeans) (here : Here) where
   abbrev pub turn : (again step body : Go) → Go
   turn again step body l k = in_block (without_bodies side) here body l (around again step k)
 
-  -- a loop is left by a tick of its own
-  abbrev pub breaks : (number : ℕ) → Go
-  breaks n l k = tick here n (λ at. k Ends l)
+  -- a tick of its own, and no more
+  abbrev pub pauses : (number : ℕ) → Go
+  pauses n l k = tick here n (λ at. k Ends l)
 
   -- an active test: a tick for the turn, what the test takes, one for its value, and one where the loop ends by it
   abbrev pub tests : (number : ℕ) → Term → (go : Go) → Go
-  tests n e go l k = tick here n (λ begin. at_tick n (prep side low here n e) (λ v at. chosen (is_true v) go (breaks n)) l k)
+  tests n e go l k = tick here n (λ begin. at_tick n (prep side low here n e) (λ v at. chosen (is_true v) go (pauses n)) l k)
 
   abbrev pub loops : (number : ℕ) → Term → (go : Go) → Go
   loops n e go = chosen (is_active e) (tests n e go) (at_tick n (prep side low here n e) (λ v at. chosen (is_true v) go leaves))
+
+  -- t = 1, and then the turns; behind each t = 0
+  abbrev pub does : (number : ℕ) → Codes → Term → (body : Go) → Go
+  does n cs e body l k = tick here n (λ at. loops n (do_test true e) (turn (low here (Codes.Then (do_again n cs e) Codes.End)) (pauses n) body) l k)
 
   -- ---- statements
 
@@ -89,6 +110,10 @@ module _ (side : RichSide) (low : RichMeans) (here : Here) where
     stmt (Code.If n e one other) l k = at_tick n (prep side low here n e) (λ v at. in_block (without_bodies side) here (chosen (is_true v) (stmts one) (stmts other))) l k
     -- 6.8.5
     stmt (Code.Loop n e step body) l k = loops n e (turn (low here (Codes.Then (Code.Loop n e step body) Codes.End)) (stmts step) (stmts body)) l k
+    -- 6.8.5.2; the whole is a block (6.8.5, paragraph 5)
+    stmt (Code.Do n body e) l k = in_block (without_bodies side) here (does n body e (stmts body)) l k
+    -- 6.8.4.2
+    stmt (Code.Switch n e clauses) l k = at_tick n (prep side low here n e) (λ v at. tries n v clauses) l k
     -- 6.8.2
     stmt (Code.Block body) l k = in_block (without_bodies side) here (stmts body) l k
     -- 6.8.6.4
@@ -99,3 +124,9 @@ module _ (side : RichSide) (low : RichMeans) (here : Here) where
     pub stmts : Codes → Go
     stmts Codes.End l k = k Ends l
     stmts (Codes.Then c cs) l k = stmt c l (on_ends (stmts cs) k)
+
+    -- a clause that is tried takes a tick, and the default none; what is in each is a block (6.8.4, paragraph 3)
+    pub tries : (number : ℕ) → Wire → Clauses → Go
+    tries n v (Clauses.Default body) l k = in_block (without_bodies side) here (stmts body) l k
+    tries n v (Clauses.Clause labels body rest) l k =
+        tick here n (λ at. equals_one side.known.program v labels at l.slots (λ x. chosen (is_true x) (in_block (without_bodies side) here (stmts body)) (tries n v rest) l k))

@@ -3,12 +3,15 @@
 use Rattle.std.specs.Prelude.{ℕ, Bool, true, false, not, List, [], ◌∷◌, pos, Result, Ok, slice_set}
 use Rattle.mdr_core.specs.declared.code.BinOp.{BinOp}
 use Rattle.mdr_core.specs.declared.code.BinOp.TheVariants.{Add, Sub}
+use Rattle.mdr_core.specs.declared.code.RelOp.TheVariants.{Eq}
 use Rattle.mdr_core.specs.declared.kind.Kind.{Kind}
 use Rattle.mdr_core.specs.declared.kind.Kind.TheVariants.{S32}
 use Rattle.mdr_core.specs.declared.place.At.{At}
+use Rattle.mdr_core.specs.declared.program.Program.{Program}
 use Rattle.mdr_core.specs.declared.stop.StopKind.{StopKind}
 use Rattle.mdr_core.specs.declared.types.Ty.{Ty, out-Ty}
 use Rattle.mdr_core.specs.declared.types.Ty.TheOpen.{Ty-F}
+use Rattle.mdr_core.specs.declared.value.Value.{Value}
 use Rattle.mdr_core.specs.Conversions.{converted, promoted}
 use Rattle.mdr_core.specs.Kinds.{is_same_kind}
 use Rattle.mdr_core.specs.Layout.{chosen}
@@ -16,10 +19,10 @@ use Rattle.mdr_core.specs.Operators.{operated}
 use Rattle.mdr_meaning.specs.declared.wire.Wire.{Wire}
 use Rattle.mdr_meaning.specs.declared.wire.Wire.TheVariants as wire
 use Rattle.mdr_meaning.specs.Expressions.{given, gives, read, slot_of}
-use Rattle.mdr_meaning.specs.Pointers.{moved, steps}
+use Rattle.mdr_meaning.specs.Pointers.{moved, related, steps}
 use Rattle.mdr_meaning.specs.Sides.{Here, in_here}
 use Rattle.mdr_meaning.specs.Tree.{Tree}
-use Rattle.mdr_meaning.specs.Values.{at_kind, integer, is_true, operand, right_operand, truth}
+use Rattle.mdr_meaning.specs.Values.{at_kind, integer, is_true, operand, right_operand, truth, wire_of}
 use Rattle.mdr_rich.specs.Code.{Lvalue}
 
 -- what is evaluated when its tick has come, over what the slots hold then
@@ -70,6 +73,18 @@ by_steps back x n = moved x (steps back (integer n))
 -- element n of an array (6.5.2.1)
 abbrev pub at_element : Wire → Wire → Result Wire StopKind
 at_element a n = moved a (integer n)
+
+-- whether a kept value equals a constant, and whether it equals one of those of a list (6.8.4.2, paragraph 5)
+abbrev pub equals : Program → Wire → Value → Ready Wire
+equals program v c = two (related program Eq) (kept v) (literal (wire_of c))
+
+abbrev pub or_equals : Program → Wire → Ready Wire → List Value → Ready Wire
+or_equals program v r [] = r
+or_equals program v r (c ∷ cs) = or_equals program v (either r (equals program v c)) cs
+
+abbrev pub equals_one : Program → Wire → List Value → Ready Wire
+equals_one program v [] = literal (truth false)
+equals_one program v (c ∷ cs) = or_equals program v (equals program v c) cs
 
 -- a list of values, from left to right
 abbrev pub none : Ready (List Wire)

@@ -29,19 +29,19 @@ module _ (body : BodyRule) (items : List Item) (whole : Parts) (functions : List
     pub behind : (before : List Item) (known : Known) (i : Item) (x : Piece) (ps : Parts) → IsPlace before known i x ps → Q known ps → Q (behind_item known i.what) (behind_piece ps x)
 
   -- what stands in front of the other items
-  record Front (before : List Item) (known : Known) (is : List Item) (xs : List Piece) (ps : Parts) : Type 0 where
-    at : IsAt items before known
-    counts : Counts known ps
-    all : items ≡ before ++ is
-    right : pieces_behind body known before is ≡ Right xs
-    parts : parts_behind ps xs ≡ whole
-    declared : (known_behind known is).functions ≡ functions
+  pub record Front (before : List Item) (known : Known) (is : List Item) (xs : List Piece) (ps : Parts) : Type 0 where
+    pub at : IsAt items before known
+    pub counts : Counts known ps
+    pub all : items ≡ before ++ is
+    pub right : pieces_behind body known before is ≡ Right xs
+    pub parts : parts_behind ps xs ≡ whole
+    pub declared : (known_behind known is).functions ≡ functions
 
   ends : (Q : Known → Parts → Type 0) (known : Known) (before : List Item) (xs : List Piece) (ps : Parts) → Front before known [] xs ps → Q known ps → Q (known_behind known []) whole
   unfolding pieces_behind known_behind parts_behind
   ends Q known before xs ps f q = subst (Q known) (ap (parts_behind ps) (same_right [] xs f.right) ∙ f.parts) q
 
-  place_at : (before : List Item) (known : Known) (i : Item) (is : List Item) (xs : List Piece) (ps : Parts) (f : Front before known (i ∷ is) xs ps) (p : Pieces body items before known i is xs) → IsPlace before known i p.first ps
+  pub place_at : (before : List Item) (known : Known) (i : Item) (is : List Item) (xs : List Piece) (ps : Parts) (f : Front before known (i ∷ is) xs ps) (p : Pieces body items before known i is xs) → IsPlace before known i p.first ps
   unfolding parts_behind known_behind
   place_at before known i is xs ps f p =
       let last : parts_behind (behind_piece ps p.first) p.rest ≡ whole = ap (parts_behind ps) (sym p.all) ∙ f.parts in
@@ -55,7 +55,7 @@ module _ (body : BodyRule) (items : List Item) (whole : Parts) (functions : List
         declared = subst (Begins (behind_item known i.what).functions) f.declared (functions_begin items (behind_item known i.what) is);
       }
 
-  front_behind : (before : List Item) (known : Known) (i : Item) (is : List Item) (xs : List Piece) (ps : Parts) (f : Front before known (i ∷ is) xs ps) (p : Pieces body items before known i is xs) → Front (before ++ i ∷ []) (behind_item known i.what) is p.rest (behind_piece ps p.first)
+  pub front_behind : (before : List Item) (known : Known) (i : Item) (is : List Item) (xs : List Piece) (ps : Parts) (f : Front before known (i ∷ is) xs ps) (p : Pieces body items before known i is xs) → Front (before ++ i ∷ []) (behind_item known i.what) is p.rest (behind_piece ps p.first)
   unfolding parts_behind known_behind
   front_behind before known i is xs ps f p = record {
     at = at_behind body items before known i p.first f.at (record { more = is; whole = f.all ∙ sym (append_assoc before (i ∷ []) is) }) p.one;
@@ -66,7 +66,7 @@ module _ (body : BodyRule) (items : List Item) (whole : Parts) (functions : List
     declared = f.declared;
   }
 
-  known_next : (known : Known) (i : Item) (is : List Item) → known_behind (behind_item known i.what) is ≡ known_behind known (i ∷ is)
+  pub known_next : (known : Known) (i : Item) (is : List Item) → known_behind (behind_item known i.what) is ≡ known_behind known (i ∷ is)
   unfolding known_behind
   known_next known i is = refl
 
@@ -89,11 +89,15 @@ first_counts : (items : List Item) → Counts (first_known items) no_parts
 unfolding first_known
 first_counts items = record { globals = refl; structs = refl; functions = tt; taken = λ i d e. absurd cc }
 
+-- in front of all items
+pub first_front : (body : BodyRule) (items : List Item) (xs : List Piece) → pieces_behind body (first_known items) [] items ≡ Right xs → Front body items (parts_behind no_parts xs) (known_behind (first_known items) items).functions [] (first_known items) items xs no_parts
+first_front body items xs right = record { at = first_at items; counts = first_counts items; all = refl; right = right; parts = refl; declared = refl }
+
 -- what holds at the begin of a file, and goes on behind each of its items, holds at its end
 pub along : (body : BodyRule) (items : List Item) (xs : List Piece) (Q : Known → Parts → Type 0) → pieces_behind body (first_known items) [] items ≡ Right xs → GoesOn body items (parts_behind no_parts xs) (known_behind (first_known items) items).functions Q → Q (first_known items) no_parts → Q (known_behind (first_known items) items) (parts_behind no_parts xs)
 along body items xs Q right on first =
     along_from body items (parts_behind no_parts xs) (known_behind (first_known items) items).functions Q on [] (first_known items) items xs no_parts
-    (record { at = first_at items; counts = first_counts items; all = refl; right = right; parts = refl; declared = refl }) first
+    (first_front body items xs right) first
 
 -- behind all items everything is counted
 pub counted_all : (body : BodyRule) (items : List Item) (xs : List Piece) → pieces_behind body (first_known items) [] items ≡ Right xs → Counts (known_behind (first_known items) items) (parts_behind no_parts xs)
@@ -101,4 +105,4 @@ counted_all body items xs right = along body items xs Counts right (record { beh
 
 -- and all that the file has is there
 pub at_all : (body : BodyRule) (items : List Item) (xs : List Piece) → pieces_behind body (first_known items) [] items ≡ Right xs → IsAt items items (known_behind (first_known items) items)
-at_all body items xs right = at_end body items (parts_behind no_parts xs) (known_behind (first_known items) items).functions [] (first_known items) items xs no_parts (record { at = first_at items; counts = first_counts items; all = refl; right = right; parts = refl; declared = refl })
+at_all body items xs right = at_end body items (parts_behind no_parts xs) (known_behind (first_known items) items).functions [] (first_known items) items xs no_parts (first_front body items xs right)

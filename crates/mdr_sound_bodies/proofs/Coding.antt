@@ -1,15 +1,17 @@
 -- The types of code that is joined.
 use Rattle.std.proofs.Common.{ℕ, ◌≤◌, Bool, true, false, List, [], ◌∷◌, ◌++◌, map, Option, refl, sym, ◌∙◌, subst}
+use Rattle.mdr_core.specs.declared.kind.Kind.{Kind}
+use Rattle.mdr_rich.specs.declared.code.Clause.{Clause}
 use Rattle.mdr_rich.specs.declared.code.Expr.{Expr}
 use Rattle.mdr_rich.specs.declared.code.Step.TheVariants as step
 use Rattle.mdr_rich.specs.declared.code.Stmt.{Stmt}
 use Rattle.mdr_core.specs.declared.program.Program.{Program}
 use Rattle.mdr_core.specs.declared.types.Ty.{Ty}
 use Rattle.mdr_rich.specs.Code.{Code}
-use Rattle.mdr_rich.specs.Folds.{code_of, codes_of, before, term_of, test_of}
-use Rattle.mdr_core.specs.Typing.{Slot, IsCondition}
-use Rattle.mdr_rich.specs.Typing.{Has, IsTyped, AreTyped}
-use Rattle.mdr_rich.proofs.Coded.{code_is, if_is, while_is, for_is, block_is}
+use Rattle.mdr_rich.specs.Folds.{code_of, codes_of, clauses_of, before, term_of, test_of}
+use Rattle.mdr_core.specs.Typing.{Slot, IsCondition, int}
+use Rattle.mdr_rich.specs.Typing.{Has, IsTyped, AreTyped, AreClauses}
+use Rattle.mdr_rich.proofs.Coded.{code_is, if_is, while_is, for_is, do_is, switch_is, block_is}
 use Rattle.mdr_body.specs.Statements.{stmt}
 
 module _ (program : Program) (slots : List Slot) (result : Ty) where
@@ -26,6 +28,12 @@ module _ (program : Program) (slots : List Slot) (result : Ty) where
 
   pub while_typed : (b : Bool) (n : ℕ) (e : Expr) (body : List Stmt) → 1 ≤ n → IsCondition (Has program slots (term_of e)) → AreTyped program slots result true (codes_of body) → IsTyped program slots result b (code_of (stmt n (step.While e body)))
   while_typed b n e body numbered condition turn = subst (IsTyped program slots result b) (sym (code_is (stmt n (step.While e body)) (step.While e body) refl ∙ while_is n e body)) (record { numbered = numbered; condition = condition; stepped = tt; turn = turn })
+
+  pub do_typed : (b : Bool) (n : ℕ) (body : List Stmt) (e : Expr) → 1 ≤ n → AreTyped program slots result true (codes_of body) → IsCondition (Has program slots (term_of e)) → IsTyped program slots result b (code_of (stmt n (step.Do body e)))
+  do_typed b n body e numbered turn condition = subst (IsTyped program slots result b) (sym (code_is (stmt n (step.Do body e)) (step.Do body e) refl ∙ do_is n body e)) (record { numbered = numbered; turn = turn; condition = condition })
+
+  pub switch_typed : (b : Bool) (n : ℕ) (e : Expr) (k : Kind) (cs : List Clause) (other : List Stmt) → 1 ≤ n → Has program slots (term_of e) (int k) → AreClauses program slots result b k (clauses_of cs other) → IsTyped program slots result b (code_of (stmt n (step.Switch e cs other)))
+  switch_typed b n e k cs other numbered value parts = subst (IsTyped program slots result b) (sym (code_is (stmt n (step.Switch e cs other)) (step.Switch e cs other) refl ∙ switch_is n e cs other)) (record { numbered = numbered; kind = k; value = value; parts = parts })
 
   pub block_typed : (b : Bool) (n : ℕ) (body : List Stmt) → AreTyped program slots result b (codes_of body) → IsTyped program slots result b (code_of (stmt n (step.Block body)))
   block_typed b n body h = subst (IsTyped program slots result b) (sym (code_is (stmt n (step.Block body)) (step.Block body) refl ∙ block_is n body)) h

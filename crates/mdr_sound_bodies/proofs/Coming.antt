@@ -4,12 +4,12 @@ use Rattle.std.proofs.lemmas.Option.{none-some, same_Some}
 use Rattle.mdr_syntax.specs.declared.tree.Decl.{Decl}
 use Rattle.mdr_faults.specs.declared.scope.Scope.{Scope}
 use Rattle.mdr_faults.specs.Faults.{told}
-use Rattle.mdr_operand.specs.Written.{Written, Line, Lines}
+use Rattle.mdr_operand.specs.Written.{Written, Line, Lines, Clauses}
 use Rattle.mdr_body.specs.declared.here.DeclaredLocal.{DeclaredLocal}
 use Rattle.mdr_body.specs.declared.here.Frame.{Frame}
 use Rattle.mdr_body.specs.declared.here.Here.{Here}
-use Rattle.mdr_body.specs.Locals.{local_declared, with_local, is_taken, entered, numbered}
-use Rattle.mdr_body.specs.Statements.{simple_behind, head_taken, heads_behind, steps_behind, behind_head, line_behind, perhaps_behind, lines_behind}
+use Rattle.mdr_body.specs.Locals.{local_declared, with_local, is_taken, entered, left, numbered}
+use Rattle.mdr_body.specs.Statements.{simple_behind, head_taken, heads_behind, steps_behind, behind_head, line_behind, perhaps_behind, lines_behind, clauses_behind}
 
 pub record IsFrom (scope : Scope) (locks : List Bool) (m : DeclaredLocal) : Type 0 where
   pub here : Here
@@ -61,6 +61,8 @@ module _ (scope : Scope) (frame : Frame) where
     from_line a t (Line.If p w one other) h = from_perhaps (line_behind scope frame (numbered a) false one) other (from_line (numbered a) false one h)
     from_line a t (Line.While p w body) h = from_line (numbered a) false body h
     from_line a t (Line.For p init test next body) h = from_line (behind_head scope frame (entered a) init test next body) false body (from_head (entered a) init test next body h)
+    from_line a t (Line.Do p body w) h = from_line (numbered a) false body h
+    from_line a t (Line.Switch p w cs) h = from_clauses (numbered a) cs h
     from_line a t l h = h
 
     from_perhaps : (a : Here) (ls : Lines) → AreFrom scope frame.locks a.locals → AreFrom scope frame.locks (perhaps_behind scope frame a ls).locals
@@ -70,3 +72,7 @@ module _ (scope : Scope) (frame : Frame) where
     pub from_lines : (a : Here) (ls : Lines) → AreFrom scope frame.locks a.locals → AreFrom scope frame.locks (lines_behind scope frame a ls).locals
     from_lines a Lines.End h = h
     from_lines a (Lines.Then l ls) h = from_lines (line_behind scope frame a (is_taken l ls) l) ls (from_line a (is_taken l ls) l h)
+
+    from_clauses : (a : Here) (cs : Clauses) → AreFrom scope frame.locks a.locals → AreFrom scope frame.locks (clauses_behind scope frame a cs).locals
+    from_clauses a Clauses.NoPart h = h
+    from_clauses a (Clauses.Part labels ls cs) h = from_clauses (left a (lines_behind scope frame (entered a) ls)) cs (from_lines (entered a) ls h)

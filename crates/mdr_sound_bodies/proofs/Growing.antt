@@ -3,12 +3,12 @@ use Rattle.std.proofs.Common.{◌≡◌, ◌+◌, ◌≤◌, Bool, false, List, 
 use Rattle.mdr_syntax.specs.declared.tree.Decl.{Decl}
 use Rattle.mdr_faults.specs.declared.scope.Scope.{Scope}
 use Rattle.mdr_operand.specs.declared.room.LocalName.{LocalName}
-use Rattle.mdr_operand.specs.Written.{Written, Line, Lines}
+use Rattle.mdr_operand.specs.Written.{Written, Line, Lines, Clauses}
 use Rattle.mdr_body.specs.declared.here.DeclaredLocal.{DeclaredLocal}
 use Rattle.mdr_body.specs.declared.here.Frame.{Frame}
 use Rattle.mdr_body.specs.declared.here.Here.{Here}
 use Rattle.mdr_body.specs.Locals.{with_local, is_taken, entered, left, numbered}
-use Rattle.mdr_body.specs.Statements.{simple_behind, head_taken, heads_behind, steps_behind, behind_head, line_behind, perhaps_behind, lines_behind}
+use Rattle.mdr_body.specs.Statements.{simple_behind, head_taken, heads_behind, steps_behind, behind_head, line_behind, perhaps_behind, lines_behind, clauses_behind}
 use Rattle.mdr_sound_bodies.specs.Written.{IsStatement, AreStatements, IsProper, AreProper}
 use Rattle.mdr_sound_bodies.proofs.Joined.{take_front}
 
@@ -89,8 +89,8 @@ module _ (scope : Scope) (frame : Frame) where
     line_grows a t (Line.For p init test step body) =
         let b : Here = behind_head scope frame (entered a) init test step body in
         grows_left a _ (grows_on (entered a) b _ (head_grows (entered a) init test step body) (line_grows b false body))
-    line_grows a t (Line.Do p body e) = grows_numbered a
-    line_grows a t (Line.Switch p e cs) = grows_numbered a
+    line_grows a t (Line.Do p body e) = grows_on a (numbered a) _ (grows_numbered a) (line_grows (numbered a) false body)
+    line_grows a t (Line.Switch p e cs) = grows_on a (numbered a) _ (grows_numbered a) (clauses_grow (numbered a) cs)
     line_grows a t (Line.Return p e) = grows_numbered a
     line_grows a t (Line.Break p) = grows_numbered a
     line_grows a t (Line.Continue p) = grows_numbered a
@@ -104,6 +104,17 @@ module _ (scope : Scope) (frame : Frame) where
     lines_grow a (Lines.Then l ls) =
         let b : Here = line_behind scope frame a (is_taken l ls) l in
         grows_on a b _ (line_grows a (is_taken l ls) l) (lines_grow b ls)
+
+    pub clauses_grow : (a : Here) (cs : Clauses) → Grows a (clauses_behind scope frame a cs)
+    clauses_grow a Clauses.NoPart = grows_none a
+    clauses_grow a (Clauses.Part labels ls cs) =
+        let b : Here = left a (lines_behind scope frame (entered a) ls) in
+        grows_on a b _ (grows_left a _ (lines_grow (entered a) ls)) (clauses_grow b cs)
+
+  -- each clause is a block
+  clauses_keep : (a : Here) (cs : Clauses) → (clauses_behind scope frame a cs).names ≡ a.names
+  clauses_keep a Clauses.NoPart = refl
+  clauses_keep a (Clauses.Part labels ls cs) = clauses_keep (left a (lines_behind scope frame (entered a) ls)) cs ∙ left_keeps a _ (lines_grow (entered a) ls)
 
   -- a statement declares nothing for what is behind it
   mutual
@@ -119,8 +130,8 @@ module _ (scope : Scope) (frame : Frame) where
     names_keep a t (Line.For p init test step body) s h =
         let b : Here = behind_head scope frame (entered a) init test step body in
         left_keeps a _ (grows_on (entered a) b _ (head_grows (entered a) init test step body) (line_grows b false body))
-    names_keep a t (Line.Do p body e) s h = refl
-    names_keep a t (Line.Switch p e cs) s h = refl
+    names_keep a t (Line.Do p body e) s h = names_keep (numbered a) false body h.0.0 h.0.1
+    names_keep a t (Line.Switch p e cs) s h = clauses_keep (numbered a) cs
     names_keep a t (Line.Return p e) s h = refl
     names_keep a t (Line.Break p) s h = refl
     names_keep a t (Line.Continue p) s h = refl

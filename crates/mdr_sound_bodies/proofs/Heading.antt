@@ -16,7 +16,7 @@ use Rattle.mdr_body.specs.declared.here.Frame.{Frame}
 use Rattle.mdr_body.specs.declared.here.Here.{Here}
 use Rattle.mdr_body.specs.Locals.{with_local, takes, is_taken}
 use Rattle.mdr_body.specs.Addresses.{perhaps_takes, takes_at, takes_along}
-use Rattle.mdr_body.specs.Statements.{Rules, appended, pair, taken_behind, head_taken, simple_made, simple_behind, heads_made, heads_behind, steps_made, steps_behind}
+use Rattle.mdr_body.specs.Statements.{Rules, no_jumps, appended, pair, taken_behind, head_taken, simple_made, simple_behind, heads_made, heads_behind, steps_made, steps_behind}
 use Rattle.mdr_sound_code.proofs.Rights.{same_right, both_right}
 use Rattle.mdr_sound_bodies.specs.Rules.{AreSoundRules}
 use Rattle.mdr_sound_bodies.specs.Written.{IsStatement, AreStatements, IsProper, AreProper}
@@ -97,12 +97,12 @@ module _ (program : Program) (slots : List Slot) (base : ℕ) (scope : Scope) (f
         let next : Here = simple_behind scope frame here t l in
         let behind : List ℕ → Bool = λ n. takes_along n ls (tail test step body n) in
         let first = declared_before slots base next.locals (heads_behind scope frame next test step body ls).locals _ (heads_grow scope frame next test step body ls).locals_are declared in
-        let parts = both_right (simple_made rules scope frame false here t l) (heads_made rules scope frame next test step body ls) appended ss e in
-        let one = simple_typed program slots base scope frame known rules sound result here false t b l behind parts.left gives given (λ f. absurd (true≢false (sym f))) h proper.0 (told_head l ls test step body) first parts.first in
+        let parts = both_right (simple_made rules scope frame no_jumps here t l) (heads_made rules scope frame next test step body ls) appended ss e in
+        let one = simple_typed program slots base scope frame known rules sound result here no_jumps t b l behind parts.left gives given (λ f. absurd (true≢false (sym f))) h proper.0 (told_head l ls test step body) first parts.first in
         let rest = heads_typed b next test step body ls parts.right (simple_here here t l behind h proper.0 (told_head l ls test step body) first) proper.1 declared parts.second in
         subst (λ xs. AreTyped program slots result b (codes_of xs)) (same_right _ _ parts.made) (typed_both program slots result b parts.left parts.right one rest)
 
     pub steps_typed : (b : Bool) (here : Here) (ls : Lines) (ss : List Stmt) → IsHere program slots base here (λ n. takes_along n ls false) → AreStatements ls → AreProper ls → AreDeclared slots base (steps_behind scope frame here ls).locals → steps_made rules scope frame here ls ≡ Right ss → AreTyped program slots result b (codes_of ss)
     steps_typed b here Lines.End ss h s proper declared e = subst (λ xs. AreTyped program slots result b (codes_of xs)) (same_right [] ss e) tt
     steps_typed b here (Lines.Then l ls) ss h s proper declared e =
-        simple_typed program slots base scope frame known rules sound result here false false b l (λ n. takes_along n ls false) ss gives given (λ f. absurd (true≢false (sym f))) h proper.0 (told_none false l (λ n. takes_along n ls false) s.0) declared e
+        simple_typed program slots base scope frame known rules sound result here no_jumps false b l (λ n. takes_along n ls false) ss gives given (λ f. absurd (true≢false (sym f))) h proper.0 (told_none false l (λ n. takes_along n ls false) s.0) declared e

@@ -8,6 +8,8 @@ pub mod Declaring
 pub mod Going
 pub mod Coding
 pub mod Conditions
+pub mod Sorting
+pub mod Clausing
 pub mod Stating
 pub mod Heading
 pub mod Lining

@@ -1,5 +1,5 @@
 -- Statements keep to the rules of sound programs, if the rules of what stands in them do.
-use Rattle.std.proofs.Common.{◌≡◌, ◌⊎◌, ℕ, ◌≤◌, ◌||◌, ◌&&◌, not, Bool, true, false, List, [], length, Option, Ok, refl, sym, subst}
+use Rattle.std.proofs.Common.{◌≡◌, ◌⊎◌, ℕ, ◌≤◌, ◌||◌, ◌&&◌, not, Bool, true, false, List, [], length, Option, Ok, refl, sym, ap, subst}
 use Rattle.mdr_rich.specs.declared.code.Expr.{Expr}
 use Rattle.mdr_rich.specs.declared.code.Step.{Step}
 use Rattle.mdr_rich.specs.declared.code.Step.TheVariants as step
@@ -10,28 +10,44 @@ use Rattle.mdr_core.specs.declared.types.Ty.{Ty}
 use Rattle.mdr_core.specs.declared.types.Ty.TheVariants as type
 use Rattle.mdr_rich.specs.Folds.{code_of, codes_of, term_of}
 use Rattle.mdr_core.specs.Types.{Scalar, sort_of}
-use Rattle.mdr_core.specs.Typing.{Slot, IsCondition}
+use Rattle.mdr_core.specs.Typing.{Slot, IsCondition, int}
 use Rattle.mdr_rich.specs.Typing.{Has, IsTyped, AreTyped}
 use Rattle.mdr_faults.specs.declared.scope.Scope.{Scope}
-use Rattle.mdr_faults.specs.Faults.{Checked, Right, both}
-use Rattle.mdr_operand.specs.Written.{Written, Line, Lines}
+use Rattle.mdr_faults.specs.Faults.{Checked, Right, both, demand}
+use Rattle.mdr_faults.specs.declared.fault.FaultKind.TheVariants.{Mismatch}
+use Rattle.mdr_operand.specs.declared.operand.Integer.{Integer}
+use Rattle.mdr_operand.specs.Written.{Written, Line, Lines, Clauses}
 use Rattle.mdr_body.specs.declared.here.Frame.{Frame}
+use Rattle.mdr_body.specs.declared.clauses.MadeClause.{MadeClause}
+use Rattle.mdr_body.specs.declared.clauses.SortedClauses.{SortedClauses}
 use Rattle.mdr_body.specs.declared.here.Here.{Here}
-use Rattle.mdr_body.specs.Locals.{with_local, is_taken, entered, numbered}
-use Rattle.mdr_body.specs.Addresses.{takes_in, perhaps_takes, takes_at, takes_along, hides}
-use Rattle.mdr_body.specs.Statements.{Rules, stmt, single, condition, perhaps_condition, appended, pair, ForHead, heads_made, heads_behind, steps_made, steps_behind, for_head, behind_head, block_of, as_part, if_of, while_of, for_of, line_behind, perhaps_behind, lines_behind, line_made, perhaps_made, lines_made}
-use Rattle.mdr_sound_code.proofs.Rights.{same_right, after_right, both_right}
+use Rattle.mdr_body.specs.declared.here.Jumps.{Jumps}
+use Rattle.mdr_body.specs.declared.here.Tested.{Tested}
+use Rattle.mdr_body.specs.declared.labels.CaseLabel.{CaseLabel}
+use Rattle.mdr_body.specs.Labels.{labels_made, labels_behind}
+use Rattle.mdr_body.specs.Clauses.{clause_place, ends, is_last, label_kind, made_clause, no_clauses, sorted}
+use Rattle.mdr_body.specs.Locals.{with_local, is_taken, entered, left, numbered}
+use Rattle.mdr_body.specs.Addresses.{takes_in, perhaps_takes, takes_at, takes_along, clauses_take, hides}
+use Rattle.mdr_body.specs.Statements.{Rules, stmt, single, condition, perhaps_condition, appended, pair, ForHead, heads_made, heads_behind, steps_made, steps_behind, for_head, behind_head, inner_jumps, loop_jumps, clause_jumps, jumps_before, block_of, as_part, if_of, while_of, for_of, do_of, switch_of, switch_by, tested_value, tested_at, line_behind, perhaps_behind, lines_behind, clauses_behind, line_made, perhaps_made, lines_made, clauses_made}
+use Rattle.mdr_sound_code.proofs.Rights.{same_right, after_right, both_right, demand_right}
 use Rattle.mdr_sound_bodies.specs.Rules.{AreSoundRules}
-use Rattle.mdr_sound_bodies.specs.Written.{PerhapsHasNumbers, IsStatement, AreStatements, IsProper, AreProper}
+use Rattle.mdr_sound_bodies.specs.Written.{PerhapsHasNumbers, IsStatement, AreStatements, IsProper, AreProper, AreProperClauses}
 use Rattle.mdr_sound_bodies.specs.Within.{KnowsDeclarations, AreDeclared, in_front, IsTold, IsHere}
 use Rattle.mdr_sound_bodies.proofs.Joined.{or_left, or_right, or_both}
-use Rattle.mdr_sound_bodies.proofs.Growing.{grows_on, grows_numbered, steps_grow, line_grows, perhaps_grow, lines_grow, names_keep}
+use Rattle.mdr_sound_bodies.proofs.Growing.{grows_on, grows_numbered, steps_grow, line_grows, perhaps_grow, lines_grow, clauses_grow, grows_left, left_keeps, names_keep}
 use Rattle.mdr_sound_bodies.proofs.Declaring.{declared_before}
 use Rattle.mdr_sound_bodies.proofs.Going.{here_less, here_numbered, here_entered, here_same, here_local}
-use Rattle.mdr_sound_bodies.proofs.Coding.{typed_both, if_typed, while_typed, block_typed, for_typed}
+use Rattle.mdr_sound_bodies.proofs.Coding.{typed_both, if_typed, while_typed, block_typed, for_typed, do_typed, switch_typed}
+use Rattle.mdr_sound_bodies.proofs.Clausing.{AreMade, IsMade, one_made, clauses_sorted, labels_in, value_typed}
 use Rattle.mdr_sound_bodies.proofs.Conditions.{condition_typed, test_typed}
+use Rattle.mdr_sound_bodies.proofs.Sorting.{more_made}
 use Rattle.mdr_sound_bodies.proofs.Stating.{simple_typed, written_right, perhaps_right}
 use Rattle.mdr_sound_bodies.proofs.Heading.{pair_right, tail, told_line, told_none, steps_same, heads_here, heads_typed, steps_typed}
+
+-- in a statement with others behind it there is a loop where there is one around all
+pub before_same : (jumps : Jumps) (ls : Lines) → (jumps_before jumps ls).in_loop ≡ jumps.in_loop
+before_same jumps Lines.End = refl
+before_same jumps (Lines.Then l ls) = refl
 
 -- a part takes no address behind it
 and_none : (h : Bool) → (not h && false) ≡ false
@@ -141,14 +157,31 @@ module _ (program : Program) (slots : List Slot) (base : ℕ) (scope : Scope) (f
         (k all.right all.second))
         all.made
 
+    do_right : (b : Bool) (n : ℕ) (c : Checked (List Stmt)) (tested : Checked Expr) (ss : List Stmt) → 1 ≤ n → ((xs : List Stmt) → c ≡ Right xs → AreTyped program slots result true (codes_of xs)) → ((e : Expr) → tested ≡ Right e → IsCondition (Has program slots (term_of e))) → both c tested (do_of n) ≡ Right ss → AreTyped program slots result b (codes_of ss)
+    do_right b n c tested ss some h t e =
+        let parts = both_right c tested (do_of n) ss e in
+        single_typed b n (step.Do parts.left parts.right) ss
+        (do_typed program slots result b n parts.left parts.right some (h parts.left parts.first) (t parts.right parts.second))
+        parts.made
+
+    switch_right : (b : Bool) (n : ℕ) (tested : Checked Integer) (c : Checked (List MadeClause)) (ss : List Stmt) → 1 ≤ n → ((v : Integer) → tested ≡ Right v → Has program slots (term_of v.value) (int v.kind)) → ((v : Integer) (ms : List MadeClause) → tested ≡ Right v → c ≡ Right ms → AreMade program slots result b v.kind ms)
+        → both tested c (switch_of n) ≡ Right ss → AreTyped program slots result b (codes_of ss)
+    switch_right b n tested c ss some t h e =
+        let parts = both_right tested c (switch_of n) ss e in
+        let v : Integer = parts.left in
+        let all : SortedClauses = sorted no_clauses parts.right in
+        single_typed b n (step.Switch v.value all.tried all.fallback) ss
+        (switch_typed program slots result b n v.value v.kind all.tried all.fallback some (t v parts.first) (clauses_sorted program slots result b v.kind parts.right (h v parts.right parts.first parts.second)))
+        parts.made
+
     -- ---- all statements
 
     mutual
-      pub line_typed : (here : Here) (in_loop is_part t : Bool) (l : Line) (behind : List ℕ → Bool) (ss : List Stmt) → IsHere program slots base here (in_front l behind) → IsProper l → IsTold t l behind → AreDeclared slots base (line_behind scope frame here t l).locals → line_made rules scope frame in_loop is_part here t l ≡ Right ss → AreTyped program slots result in_loop (codes_of ss)
-      line_typed here in_loop is_part t (Line.Block p ls) behind ss h proper told declared e =
+      pub line_typed : (here : Here) (jumps : Jumps) (is_part t : Bool) (l : Line) (behind : List ℕ → Bool) (ss : List Stmt) → IsHere program slots base here (in_front l behind) → IsProper l → IsTold t l behind → AreDeclared slots base (line_behind scope frame here t l).locals → line_made rules scope frame jumps is_part here t l ≡ Right ss → AreTyped program slots result jumps.in_loop (codes_of ss)
+      line_typed here jumps is_part t (Line.Block p ls) behind ss h proper told declared e =
           let inside = here_entered program slots base here (λ n. takes_along n ls false) (here_less program slots base here _ (λ n. takes_along n ls false) h (λ name q. or_left (takes_along name ls false) (behind name) q)) in
-          part_typed in_loop is_part (lines_made rules scope frame in_loop (entered here) ls) ss (λ xs q. lines_typed (entered here) in_loop ls xs inside proper declared q) e
-      line_typed here in_loop is_part t (Line.If p w one other) behind ss h proper told declared e =
+          part_typed jumps.in_loop is_part (lines_made rules scope frame (inner_jumps jumps) (entered here) ls) ss (λ xs q. lines_typed (entered here) (inner_jumps jumps) ls xs inside proper declared q) e
+      line_typed here jumps is_part t (Line.If p w one other) behind ss h proper told declared e =
           let b : Here = line_behind scope frame (numbered here) false one in
           let all = here_less program slots base here _ (λ n. takes_in n w || (takes_at n one || takes_along n other false)) h (λ name q. or_left (takes_in name w || (takes_at name one || takes_along name other false)) (behind name) q) in
           let parts = here_numbered program slots base here _ (here_less program slots base here _ (λ n. takes_at n one || takes_along n other false) all (λ name q. or_right (takes_in name w) _ q)) in
@@ -156,42 +189,84 @@ module _ (program : Program) (slots : List Slot) (base : ℕ) (scope : Scope) (f
           let second = part_here (numbered here) one (λ n. takes_along n other false) (here_less program slots base (numbered here) _ (λ n. takes_along n other false) parts (λ name q. or_right (takes_at name one) (takes_along name other false) q)) proper.1.0.0 proper.1.0.1 in
           let declared_first = declared_before slots base b.locals (perhaps_behind scope frame b other).locals _ (perhaps_grow scope frame b other).locals_are declared in
           let right = written_right program slots base scope frame known rules sound result here _ w all (λ name q. or_left (takes_in name w) _ q) proper.0 in
-          if_right in_loop here.number (condition rules scope here p w) (line_made rules scope frame in_loop true (numbered here) false one) (perhaps_made rules scope frame in_loop b other) ss h.number
+          if_right jumps.in_loop here.number (condition rules scope here p w) (line_made rules scope frame (inner_jumps jumps) true (numbered here) false one) (perhaps_made rules scope frame (inner_jumps jumps) b other) ss h.number
           (λ x q. condition_typed program slots scope rules sound here p w x h.knows right q)
-          (λ xs q. line_typed (numbered here) in_loop true false one (λ n. false) xs first proper.1.0.1 (told_none false one (λ n. false) proper.1.0.0) declared_first q)
-          (λ xs q. perhaps_typed b in_loop other xs second proper.1.1.0 proper.1.1.1 declared q)
+          (λ xs q. line_typed (numbered here) (inner_jumps jumps) true false one (λ n. false) xs first proper.1.0.1 (told_none false one (λ n. false) proper.1.0.0) declared_first q)
+          (λ xs q. perhaps_typed b (inner_jumps jumps) other xs second proper.1.1.0 proper.1.1.1 declared q)
           e
-      line_typed here in_loop is_part t (Line.While p w body) behind ss h proper told declared e =
+      line_typed here jumps is_part t (Line.While p w body) behind ss h proper told declared e =
           let all = here_less program slots base here _ (λ n. takes_in n w || takes_at n body) h (λ name q. or_left (takes_in name w || takes_at name body) (behind name) q) in
           let inside = here_numbered program slots base here _ (here_less program slots base here _ (in_front body (λ n. false)) all (λ name q. front_of_none body name (or_right (takes_in name w) (takes_at name body) q))) in
           let right = written_right program slots base scope frame known rules sound result here _ w all (λ name q. or_left (takes_in name w) _ q) proper.0 in
-          while_right in_loop here.number (condition rules scope here p w) (line_made rules scope frame true true (numbered here) false body) ss h.number
+          while_right jumps.in_loop here.number (condition rules scope here p w) (line_made rules scope frame loop_jumps true (numbered here) false body) ss h.number
           (λ x q. condition_typed program slots scope rules sound here p w x h.knows right q)
-          (λ xs q. line_typed (numbered here) true true false body (λ n. false) xs inside proper.1.1 (told_none false body (λ n. false) proper.1.0) declared q)
+          (λ xs q. line_typed (numbered here) loop_jumps true false body (λ n. false) xs inside proper.1.1 (told_none false body (λ n. false) proper.1.0) declared q)
           e
-      line_typed here in_loop is_part t (Line.For p init test next body) behind ss h proper told declared e =
+      line_typed here jumps is_part t (Line.For p init test next body) behind ss h proper told declared e =
           let all = here_entered program slots base here _ (here_less program slots base here _ (λ n. takes_along n init (tail test next body n)) h (λ name q. or_left (takes_along name init (tail test next body name)) (behind name) q)) in
           let first = heads_here program slots base scope frame known (entered here) test next body init all proper.0.0 (head_declared (entered here) init test next body proper.1.0.0 declared) in
           let b : Here = behind_head scope frame (entered here) init test next body in
           let inside = here_less program slots base b (tail test next body) (in_front body (λ n. false)) (head_here (entered here) init test next body first proper.1.0.0) (λ name q. front_of_none body name (or_right (takes_along name next false) (takes_at name body) (or_right (perhaps_takes name test) (takes_along name next false || takes_at name body) q))) in
-          for_right in_loop (entered here) p init test next body here.number (line_made rules scope frame true true b false body) ss h.number all proper.0.0 proper.0.1 proper.1.0.0 proper.1.0.1 declared
-          (λ xs q. line_typed b true true false body (λ n. false) xs inside proper.1.1.1 (told_none false body (λ n. false) proper.1.1.0) declared q)
+          for_right jumps.in_loop (entered here) p init test next body here.number (line_made rules scope frame loop_jumps true b false body) ss h.number all proper.0.0 proper.0.1 proper.1.0.0 proper.1.0.1 declared
+          (λ xs q. line_typed b loop_jumps true false body (λ n. false) xs inside proper.1.1.1 (told_none false body (λ n. false) proper.1.1.0) declared q)
           e
-      line_typed here in_loop is_part t l behind ss h proper told declared e =
-          simple_typed program slots base scope frame known rules sound result here in_loop t in_loop l behind ss gives given (λ q. q) h proper told declared e
+      line_typed here jumps is_part t (Line.Do p body w) behind ss h proper told declared e =
+          let there : Here = line_behind scope frame (numbered here) false body in
+          let all = here_less program slots base here _ (λ n. takes_at n body || takes_in n w) h (λ name q. or_left (takes_at name body || takes_in name w) (behind name) q) in
+          let parts = here_numbered program slots base here _ all in
+          let inside = here_less program slots base (numbered here) _ (in_front body (λ n. false)) parts (λ name q. front_of_none body name (or_left (takes_at name body) (takes_in name w) q)) in
+          let rest = part_here (numbered here) body (λ n. takes_in n w) (here_less program slots base (numbered here) _ (λ n. takes_in n w) parts (λ name q. or_right (takes_at name body) (takes_in name w) q)) proper.0.0 proper.0.1 in
+          let right = written_right program slots base scope frame known rules sound result there _ w rest (λ name q. q) proper.1 in
+          do_right jumps.in_loop here.number (line_made rules scope frame loop_jumps true (numbered here) false body) (condition rules scope there p w) ss h.number
+          (λ xs q. line_typed (numbered here) loop_jumps true false body (λ n. false) xs inside proper.0.1 (told_none false body (λ n. false) proper.0.0) declared q)
+          (λ x q. condition_typed program slots scope rules sound there p w x rest.knows right q)
+          e
+      line_typed here jumps is_part t (Line.Switch p w cs) behind ss h proper told declared e =
+          let tested : Checked Integer = tested_value rules scope here p w in
+          let all = here_less program slots base here _ (λ n. takes_in n w || clauses_take n cs) h (λ name q. or_left (takes_in name w || clauses_take name cs) (behind name) q) in
+          let inside = here_numbered program slots base here _ (here_less program slots base here _ (λ n. clauses_take n cs) all (λ name q. or_right (takes_in name w) (clauses_take name cs) q)) in
+          let right = written_right program slots base scope frame known rules sound result here _ w all (λ name q. or_left (takes_in name w) _ q) proper.0 in
+          switch_right jumps.in_loop here.number tested (clauses_made rules scope frame (clause_jumps jumps) (numbered here) (tested_at p tested) [] cs) ss h.number
+          (λ v q. value_typed program slots scope rules sound here p w v h.knows right q)
+          (λ v ms q r. subst (λ k. AreMade program slots result jumps.in_loop k ms) (ap label_kind q) (clauses_typed (numbered here) (clause_jumps jumps) (tested_at p tested) [] cs ms inside proper.1 declared r))
+          e
+      line_typed here jumps is_part t l behind ss h proper told declared e =
+          simple_typed program slots base scope frame known rules sound result here jumps t jumps.in_loop l behind ss gives given (λ q. q) h proper told declared e
 
-      pub perhaps_typed : (here : Here) (in_loop : Bool) (ls : Lines) (ss : List Stmt) → IsHere program slots base here (λ n. takes_along n ls false) → AreStatements ls → AreProper ls → AreDeclared slots base (perhaps_behind scope frame here ls).locals → perhaps_made rules scope frame in_loop here ls ≡ Right ss → AreTyped program slots result in_loop (codes_of ss)
-      perhaps_typed here in_loop Lines.End ss h s proper declared e = subst (λ xs. AreTyped program slots result in_loop (codes_of xs)) (same_right [] ss e) tt
-      perhaps_typed here in_loop (Lines.Then l ls) ss h s proper declared e = line_typed here in_loop true false l (λ n. takes_along n ls false) ss h proper.0 (told_none false l (λ n. takes_along n ls false) s.0) declared e
+      pub perhaps_typed : (here : Here) (jumps : Jumps) (ls : Lines) (ss : List Stmt) → IsHere program slots base here (λ n. takes_along n ls false) → AreStatements ls → AreProper ls → AreDeclared slots base (perhaps_behind scope frame here ls).locals → perhaps_made rules scope frame jumps here ls ≡ Right ss → AreTyped program slots result jumps.in_loop (codes_of ss)
+      perhaps_typed here jumps Lines.End ss h s proper declared e = subst (λ xs. AreTyped program slots result jumps.in_loop (codes_of xs)) (same_right [] ss e) tt
+      perhaps_typed here jumps (Lines.Then l ls) ss h s proper declared e = line_typed here jumps true false l (λ n. takes_along n ls false) ss h proper.0 (told_none false l (λ n. takes_along n ls false) s.0) declared e
 
-      pub lines_typed : (here : Here) (in_loop : Bool) (ls : Lines) (ss : List Stmt) → IsHere program slots base here (λ n. takes_along n ls false) → AreProper ls → AreDeclared slots base (lines_behind scope frame here ls).locals → lines_made rules scope frame in_loop here ls ≡ Right ss → AreTyped program slots result in_loop (codes_of ss)
-      lines_typed here in_loop Lines.End ss h proper declared e = subst (λ xs. AreTyped program slots result in_loop (codes_of xs)) (same_right [] ss e) tt
-      lines_typed here in_loop (Lines.Then l ls) ss h proper declared e =
+      pub lines_typed : (here : Here) (jumps : Jumps) (ls : Lines) (ss : List Stmt) → IsHere program slots base here (λ n. takes_along n ls false) → AreProper ls → AreDeclared slots base (lines_behind scope frame here ls).locals → lines_made rules scope frame jumps here ls ≡ Right ss → AreTyped program slots result jumps.in_loop (codes_of ss)
+      lines_typed here jumps Lines.End ss h proper declared e = subst (λ xs. AreTyped program slots result jumps.in_loop (codes_of xs)) (same_right [] ss e) tt
+      lines_typed here jumps (Lines.Then l ls) ss h proper declared e =
           let t = is_taken l ls in
           let b : Here = line_behind scope frame here t l in
           let first = declared_before slots base b.locals (lines_behind scope frame b ls).locals _ (lines_grow scope frame b ls).locals_are declared in
           let next = line_here here t l (λ n. takes_along n ls false) h proper.0 (told_line l ls) first in
-          joined_typed in_loop (line_made rules scope frame in_loop false here t l) (lines_made rules scope frame in_loop b ls) ss
-          (λ xs q. line_typed here in_loop false t l (λ n. takes_along n ls false) xs h proper.0 (told_line l ls) first q)
-          (λ xs q. lines_typed b in_loop ls xs next proper.1 declared q)
+          joined_typed jumps.in_loop (line_made rules scope frame (jumps_before jumps ls) false here t l) (lines_made rules scope frame jumps b ls) ss
+          (λ xs q. subst (λ b. AreTyped program slots result b (codes_of xs)) (before_same jumps ls) (line_typed here (jumps_before jumps ls) false t l (λ n. takes_along n ls false) xs h proper.0 (told_line l ls) first q))
+          (λ xs q. lines_typed b jumps ls xs next proper.1 declared q)
           e
+
+      -- each clause in front of those behind it
+      pub clauses_typed : (here : Here) (jumps : Jumps) (at : Tested) (seen : List CaseLabel) (cs : Clauses) (ms : List MadeClause) → IsHere program slots base here (λ n. clauses_take n cs) → AreProperClauses cs → AreDeclared slots base (clauses_behind scope frame here cs).locals
+          → clauses_made rules scope frame jumps here at seen cs ≡ Right ms → AreMade program slots result jumps.in_loop at.kind ms
+      clauses_typed here jumps at seen Clauses.NoPart ms h proper declared e = subst (AreMade program slots result jumps.in_loop at.kind) (same_right [] ms e) tt
+      clauses_typed here jumps at seen (Clauses.Part labels ls cs) ms h proper declared e =
+          let inner : Here = lines_behind scope frame (entered here) ls in
+          let there : Here = left here inner in
+          let parts = here_less program slots base here _ (λ n. takes_along n ls false) h (λ name q. or_left (takes_along name ls false) (clauses_take name cs) q) in
+          let rest = here_less program slots base here _ (λ n. clauses_take n cs) h (λ name q. or_right (takes_along name ls false) (clauses_take name cs) q) in
+          let grown = lines_grow scope frame (entered here) ls in
+          let next = here_same program slots base here there (λ n. clauses_take n cs) (grows_left here inner grown) (left_keeps here inner grown) rest in
+          let first = declared_before slots base inner.locals (clauses_behind scope frame there cs).locals _ (clauses_grow scope frame there cs).locals_are declared in
+          let made = lines_made rules scope frame jumps (entered here) ls in
+          let one = both (labels_made scope here.names at.kind seen labels) (demand (clause_place at.place labels) Mismatch (ends ls (is_last cs)) made) (made_clause at.kind) in
+          let all = both_right one (clauses_made rules scope frame jumps there at (labels_behind scope here.names at.kind seen labels) cs) appended ms e in
+          let own = both_right (labels_made scope here.names at.kind seen labels) (demand (clause_place at.place labels) Mismatch (ends ls (is_last cs)) made) (made_clause at.kind) all.left all.first in
+          let body = demand_right (clause_place at.place labels) Mismatch (ends ls (is_last cs)) made own.right own.second in
+          subst (AreMade program slots result jumps.in_loop at.kind) (same_right _ _ all.made)
+          (more_made (IsMade program slots result jumps.in_loop at.kind) (AreTyped program slots result jumps.in_loop) all.left all.right
+          (one_made program slots result jumps.in_loop at.kind own.left own.right all.left (labels_in scope here.names at.kind seen labels own.left own.first) (lines_typed (entered here) jumps ls own.right (here_entered program slots base here _ parts) proper.0.1 first body.right) own.made)
+          (clauses_typed there jumps at (labels_behind scope here.names at.kind seen labels) cs all.right next proper.1 declared all.second))

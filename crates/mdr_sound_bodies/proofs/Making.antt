@@ -28,7 +28,7 @@ use Rattle.mdr_body.specs.declared.here.Frame.{Frame}
 use Rattle.mdr_body.specs.declared.here.Here.{Here}
 use Rattle.mdr_body.specs.Bodies.{declared_locals, frame_of, body_of, body_by, body_rule}
 use Rattle.mdr_body.specs.Locals.{struct_locks, parameter_taken, first_here}
-use Rattle.mdr_body.specs.Statements.{Rules, lines_behind, lines_made}
+use Rattle.mdr_body.specs.Statements.{Rules, no_jumps, lines_behind, lines_made}
 use Rattle.mdr_lower.specs.Lowering.{lowered}
 use Rattle.mdr_lower.proofs.Typed.{IsNew, AreNew, body_shaped, body_typed, new_slots, new_at}
 use Rattle.mdr_program.specs.Parts.{marked}
@@ -79,12 +79,12 @@ heading_right scope h g e =
 
 pub record IsBodied (rules : Rules) (scope : Scope) (frame : Frame) (here : Here) (objects : List Bool) (ls : Lines) (body : Body) : Type 0 where
   pub locals : declared_locals (lines_behind scope frame here ls).locals ≡ Right body.locals
-  pub statements : lines_made rules scope frame false here ls ≡ Right body.statements
+  pub statements : lines_made rules scope frame no_jumps here ls ≡ Right body.statements
   pub marks : objects ≡ body.objects
 
 body_right : (rules : Rules) (scope : Scope) (frame : Frame) (here : Here) (objects : List Bool) (ls : Lines) (body : Body) → body_by rules scope frame here objects ls ≡ Right body → IsBodied rules scope frame here objects ls body
 body_right rules scope frame here objects ls body e =
-    let b = both_right (declared_locals (lines_behind scope frame here ls).locals) (lines_made rules scope frame false here ls) (body_of objects) body e in
+    let b = both_right (declared_locals (lines_behind scope frame here ls).locals) (lines_made rules scope frame no_jumps here ls) (body_of objects) body e in
     subst (λ x. IsBodied rules scope frame here objects ls x) (same_right (record { objects = objects; locals = b.left; statements = b.right }) body b.made)
     (record { locals = b.first; statements = b.second; marks = refl })
 
@@ -112,7 +112,7 @@ module _ (program : Program) (rules : Rules) (scope : Scope) (h : Head) (nodes :
   unfolding frame_of
   result_told t e = ap told e
 
-  made_typed : (outer : Scope) → outer.tags ≡ scope.tags → (g : Heading) (siblings : List Candidate) (locals : List Local) (ss : List Stmt) → IsHeaded outer siblings h g → ((slots : List Slot) → AreSoundRules program slots scope rules) → AreNamed h.params → AreProper (lines_of nodes) → declared_locals (lines_behind scope (frame_of scope h) (first_here scope (lines_of nodes) h.params) (lines_of nodes)).locals ≡ Right locals → lines_made rules scope (frame_of scope h) false (first_here scope (lines_of nodes) h.params) (lines_of nodes) ≡ Right ss → AreTyped program (map slot_of_param (marked (map (parameter_taken (lines_of nodes)) h.params) 0 g.params) ++ map slot_of_local locals) g.result false (codes_of ss)
+  made_typed : (outer : Scope) → outer.tags ≡ scope.tags → (g : Heading) (siblings : List Candidate) (locals : List Local) (ss : List Stmt) → IsHeaded outer siblings h g → ((slots : List Slot) → AreSoundRules program slots scope rules) → AreNamed h.params → AreProper (lines_of nodes) → declared_locals (lines_behind scope (frame_of scope h) (first_here scope (lines_of nodes) h.params) (lines_of nodes)).locals ≡ Right locals → lines_made rules scope (frame_of scope h) no_jumps (first_here scope (lines_of nodes) h.params) (lines_of nodes) ≡ Right ss → AreTyped program (map slot_of_param (marked (map (parameter_taken (lines_of nodes)) h.params) 0 g.params) ++ map slot_of_local locals) g.result false (codes_of ss)
   made_typed outer tags g siblings locals ss headed sound named proper declared made =
       let ls : Lines = lines_of nodes in
       let here : Here = first_here scope ls h.params in
@@ -121,7 +121,7 @@ module _ (program : Program) (rules : Rules) (scope : Scope) (h : Head) (nodes :
       let base : length front ≡ length h.params = mapped_many slot_of_param (marked (map (parameter_taken ls) h.params) 0 g.params) ∙ marked_many (map (parameter_taken ls) h.params) 0 g.params ∙ params_many outer siblings [] h.params g.params headed.params in
       let result : head_result scope h ≡ Right g.result = sym (same_result outer scope h tags) ∙ headed.result in
       let are = subst (λ k. AreDeclared all k (lines_behind scope (frame_of scope h) here ls).locals) base (all_declared front (lines_behind scope (frame_of scope h) here ls).locals locals declared) in
-      lines_typed program all (length h.params) scope (frame_of scope h) known rules (sound all) g.result (result_told g.result result) (known.results h g.result result) here false ls ss
+      lines_typed program all (length h.params) scope (frame_of scope h) known rules (sound all) g.result (result_told g.result result) (known.results h g.result result) here no_jumps ls ss
       (parameters_here program outer scope tags known siblings ls h.params g.params headed.params locals named) proper are made
 
 -- ---- lowered
@@ -153,14 +153,14 @@ module _ (program : Program) (rules : Rules) (scope : Scope) (h : Head) (nodes :
   bodied : IsBodied rules scope (frame_of scope h) (first_here scope (lines_of nodes) h.params) (map (parameter_taken (lines_of nodes)) h.params) (lines_of nodes) body
   bodied = rule_right rules scope h nodes body made.body_is
 
-  abbrev Slots : List Slot
+  abbrev pub Slots : List Slot
   Slots = map slot_of_param (marked body.objects 0 g.params) ++ map slot_of_local body.locals
 
-  statements_typed : AreTyped program Slots g.result false (codes_of body.statements)
+  pub statements_typed : AreTyped program Slots g.result false (codes_of body.statements)
   statements_typed = subst (λ os. AreTyped program (map slot_of_param (marked os 0 g.params) ++ map slot_of_local body.locals) g.result false (codes_of body.statements)) bodied.marks
       (made_typed program rules scope h nodes known made.front made.tags g (map (candidate made.front) h.params) body.locals body.statements (heading_right made.front h g made.heading_is) sound made.named made.proper bodied.locals bodied.statements)
 
-  slots_many : length Slots ≡ length g.params + length body.locals
+  pub slots_many : length Slots ≡ length g.params + length body.locals
   slots_many =
       let front = mapped_many slot_of_param (marked body.objects 0 g.params) ∙ marked_many body.objects 0 g.params in
       let behind = mapped_many slot_of_local body.locals in

@@ -27,11 +27,14 @@ use Rattle.mdr_faults.specs.Faults.{Checked, Right, again}
 use Rattle.mdr_headings.specs.Annotations.{is_character, is_character_by, is_character_kind}
 use Rattle.mdr_operand.specs.declared.room.LocalName.{LocalName}
 use Rattle.mdr_operand.specs.Written.{Written, Line}
+use Rattle.mdr_body.specs.declared.here.Breaks.{Breaks}
+use Rattle.mdr_body.specs.declared.here.Breaks.TheVariants as break_of
 use Rattle.mdr_body.specs.declared.here.Frame.{Frame}
 use Rattle.mdr_body.specs.declared.here.Here.{Here}
+use Rattle.mdr_body.specs.declared.here.Jumps.{Jumps}
 use Rattle.mdr_body.specs.Locals.{local_object, local_of, is_own_object, with_local}
 use Rattle.mdr_body.specs.Addresses.{takes_in, perhaps_takes, takes_at}
-use Rattle.mdr_body.specs.Statements.{Rules, stmt, single, stated, text_of, takes_text, is_single, own_place, initial_by, initial_step, declared_then, local_made, jumped, return_by, return_step, simple_made, simple_behind}
+use Rattle.mdr_body.specs.Statements.{Rules, stmt, single, stated, text_of, takes_text, is_single, own_place, initial_by, initial_step, declared_then, local_made, jumped, broken_by, broken, return_by, return_step, simple_made, simple_behind}
 use Rattle.mdr_sound_code.specs.Knowing.{KnowsLocals, HasNumbers, IsFormed}
 use Rattle.mdr_sound_code.proofs.Layers.{int_from}
 use Rattle.mdr_sound_code.proofs.Rights.{not_right, same_right, same_ok, again_right, after_right, chosen_right, refused_right}
@@ -126,6 +129,16 @@ module _ (program : Program) (slots : List Slot) (result : Ty) where
   breaks p in_loop b n ss inside some e =
       let j = jump_right p in_loop n step.Break ss e in
       at_list b _ ss j.is (break_typed n b (inside j.inside) some)
+
+  -- in a loop, or at the end of a clause, where it is no statement
+  broken_by_typed : (n : ℕ) (p : Place) (in_loop : Bool) (leaves : Breaks) (b : Bool) (ss : List Stmt) → (in_loop ≡ true → b ≡ true) → 1 ≤ n → broken_by n p in_loop leaves ≡ Right ss → AreTyped program slots result b (codes_of ss)
+  broken_by_typed n p in_loop break_of.Loop b ss inside some e = breaks p in_loop b n ss inside some e
+  broken_by_typed n p in_loop break_of.Clause b ss inside some e = at_list b [] ss (sym (same_right [] ss e)) tt
+  broken_by_typed n p in_loop break_of.Nothing b ss inside some e = not_right _ ss e
+
+  pub broken_typed : (n : ℕ) (p : Place) (jumps : Jumps) (b : Bool) (ss : List Stmt) → (jumps.in_loop ≡ true → b ≡ true) → 1 ≤ n → broken n p jumps ≡ Right ss → AreTyped program slots result b (codes_of ss)
+  unfolding broken
+  broken_typed n p jumps b ss inside some e = broken_by_typed n p jumps.in_loop jumps.breaks b ss inside some e
 
   pub continues : (p : Place) (in_loop b : Bool) (n : ℕ) (ss : List Stmt) → (in_loop ≡ true → b ≡ true) → 1 ≤ n → stated n (jumped p in_loop step.Continue) ≡ Right ss → AreTyped program slots result b (codes_of ss)
   continues p in_loop b n ss inside some e =
@@ -232,28 +245,28 @@ module _ (program : Program) (slots : List Slot) (base : ℕ) (scope : Scope) (f
   pub written_right : (here : Here) (r : List ℕ → Bool) (w : Written) → IsHere program slots base here r → ((name : List ℕ) → r name ≡ false → takes_in name w ≡ false) → HasNumbers w → IsRight here.names w
   written_right here r w h less numbers = record { numbers = numbers; no_slot = takes_no_slot program slots base here r w h less }
 
-  pub simple_typed : (here : Here) (in_loop t b : Bool) (l : Line) (behind : List ℕ → Bool) (ss : List Stmt) → frame.result ≡ Ok result → (sort_of (length program.structs) result ≡ Scalar) ⊎ (result ≡ type.Void) → (in_loop ≡ true → b ≡ true) → IsHere program slots base here (in_front l behind) → IsProper l → IsTold t l behind → AreDeclared slots base (simple_behind scope frame here t l).locals → simple_made rules scope frame in_loop here t l ≡ Right ss → AreTyped program slots result b (codes_of ss)
-  simple_typed here in_loop t b (Line.Empty p) behind ss gives given inside h proper told declared e = step_typed program slots result here.number step.Empty ss b (empty_sound program slots result) h.number e
-  simple_typed here in_loop t b (Line.Block p ls) behind ss gives given inside h proper told declared e = not_right _ ss e
-  simple_typed here in_loop t b (Line.Local p d init) behind ss gives given inside h proper told declared e =
+  pub simple_typed : (here : Here) (jumps : Jumps) (t b : Bool) (l : Line) (behind : List ℕ → Bool) (ss : List Stmt) → frame.result ≡ Ok result → (sort_of (length program.structs) result ≡ Scalar) ⊎ (result ≡ type.Void) → (jumps.in_loop ≡ true → b ≡ true) → IsHere program slots base here (in_front l behind) → IsProper l → IsTold t l behind → AreDeclared slots base (simple_behind scope frame here t l).locals → simple_made rules scope frame jumps here t l ≡ Right ss → AreTyped program slots result b (codes_of ss)
+  simple_typed here jumps t b (Line.Empty p) behind ss gives given inside h proper told declared e = step_typed program slots result here.number step.Empty ss b (empty_sound program slots result) h.number e
+  simple_typed here jumps t b (Line.Block p ls) behind ss gives given inside h proper told declared e = not_right _ ss e
+  simple_typed here jumps t b (Line.Local p d init) behind ss gives given inside h proper told declared e =
       let behind_it = here_local program slots base scope frame known here t p d init behind h proper.0 told declared in
       local_typed here t b d init ss h.number (local_at slots base scope frame.locks here t d h.slot declared) behind_it.knows
       (perhaps_right (with_local scope frame.locks t d here) _ init behind_it (λ name n. or_left (perhaps_takes name init) (behind name) n) proper.1)
       e
-  simple_typed here in_loop t b (Line.Assign p at op x y) behind ss gives given inside h proper told declared e =
+  simple_typed here jumps t b (Line.Assign p at op x y) behind ss gives given inside h proper told declared e =
       let first = written_right here _ x h (λ name n. or_left (takes_in name x) _ (or_left (takes_at name (Line.Assign p at op x y)) _ n)) proper.0 in
       let second = written_right here _ y h (λ name n. or_right (takes_in name x) _ (or_left (takes_at name (Line.Assign p at op x y)) _ n)) proper.1 in
       stated_typed program slots result here.number _ ss b (λ s is. sound.assigned here.names at op x y s result h.knows first second is) h.number e
-  simple_typed here in_loop t b (Line.Plain p w) behind ss gives given inside h proper told declared e =
+  simple_typed here jumps t b (Line.Plain p w) behind ss gives given inside h proper told declared e =
       let right = written_right here _ w h (λ name n. or_left (takes_at name (Line.Plain p w)) _ n) proper in
       stated_typed program slots result here.number _ ss b (λ s is. sound.called here.names w s result h.knows right is) h.number e
-  simple_typed here in_loop t b (Line.If p w one other) behind ss gives given inside h proper told declared e = not_right _ ss e
-  simple_typed here in_loop t b (Line.While p w body) behind ss gives given inside h proper told declared e = not_right _ ss e
-  simple_typed here in_loop t b (Line.For p init test step body) behind ss gives given inside h proper told declared e = not_right _ ss e
-  simple_typed here in_loop t b (Line.Do p body w) behind ss gives given inside h proper told declared e = not_right _ ss e
-  simple_typed here in_loop t b (Line.Switch p w cs) behind ss gives given inside h proper told declared e = not_right _ ss e
-  simple_typed here in_loop t b (Line.Return p w) behind ss gives given inside h proper told declared e =
+  simple_typed here jumps t b (Line.If p w one other) behind ss gives given inside h proper told declared e = not_right _ ss e
+  simple_typed here jumps t b (Line.While p w body) behind ss gives given inside h proper told declared e = not_right _ ss e
+  simple_typed here jumps t b (Line.For p init test step body) behind ss gives given inside h proper told declared e = not_right _ ss e
+  simple_typed here jumps t b (Line.Do p body w) behind ss gives given inside h proper told declared e = not_right _ ss e
+  simple_typed here jumps t b (Line.Switch p w cs) behind ss gives given inside h proper told declared e = not_right _ ss e
+  simple_typed here jumps t b (Line.Return p w) behind ss gives given inside h proper told declared e =
       let right = perhaps_right here _ w h (λ name n. or_left (takes_at name (Line.Return p w)) _ n) proper in
       stated_typed program slots result here.number _ ss b (λ s is. return_sound here p w s gives given h.knows right is) h.number e
-  simple_typed here in_loop t b (Line.Break p) behind ss gives given inside h proper told declared e = breaks program slots result p in_loop b here.number ss inside h.number e
-  simple_typed here in_loop t b (Line.Continue p) behind ss gives given inside h proper told declared e = continues program slots result p in_loop b here.number ss inside h.number e
+  simple_typed here jumps t b (Line.Break p) behind ss gives given inside h proper told declared e = broken_typed program slots result here.number p jumps b ss inside h.number e
+  simple_typed here jumps t b (Line.Continue p) behind ss gives given inside h proper told declared e = continues program slots result p jumps.in_loop b here.number ss inside h.number e

@@ -1,5 +1,5 @@
 -- Lowered code names objects only where they live, if the code did.
-use Rattle.std.proofs.Common.{◌≡◌, ℕ, Bool, true, false, not, pos, List, [], ◌∷◌, ◌++◌, map, Option, Some, None, slice_get, refl, sym, ap, ◌∙◌, subst}
+use Rattle.std.proofs.Common.{◌≡◌, ℕ, ℤ, Bool, true, false, not, pos, List, [], ◌∷◌, ◌++◌, map, Option, Some, None, slice_get, refl, sym, ap, ◌∙◌, subst}
 use Rattle.std.specs.Option.{option_map}
 use Rattle.mdr_core.proofs.Coded.{addr_is, and_is, assign_is, bin_is, block_is, break_is, call_is, code_is, continue_is, conv_is, decay_is, declare_is, deref_is, diff_is, empty_is, flip_is, for_is, from_void_is, global_is, if_is, index_is, lit_is, load_is, member_is, move_is, neg_is, not_is, numbered, object_is, or_is, rel_is, return_call_is, return_is, slot_is, text_is, to_void_is, while_is}
 use Rattle.mdr_core.specs.Code.{Code, Codes, Goal, Way, Term as PlainTerm, Lvalue as PlainLvalue}
@@ -10,6 +10,7 @@ use Rattle.mdr_core.specs.declared.code.Expr.{Expr}
 use Rattle.mdr_core.specs.declared.code.Expr.TheVariants as expr
 use Rattle.mdr_core.specs.declared.code.Lval.{Lval}
 use Rattle.mdr_core.specs.declared.code.Lval.TheVariants as lval
+use Rattle.mdr_core.specs.declared.code.RelOp.TheVariants.{Eq}
 use Rattle.mdr_core.specs.declared.code.Step.{Step}
 use Rattle.mdr_core.specs.declared.code.Step.TheVariants as step
 use Rattle.mdr_core.specs.declared.code.Stmt.{Stmt}
@@ -18,6 +19,7 @@ use Rattle.mdr_core.specs.declared.kind.Kind.TheVariants.{S32}
 use Rattle.mdr_core.specs.declared.types.Ty.{Ty, out-Ty}
 use Rattle.mdr_core.specs.declared.types.Ty.TheOpen.{Ty-F}
 use Rattle.mdr_core.specs.declared.types.Ty.TheVariants as type
+use Rattle.mdr_core.specs.declared.value.Value.{Value}
 use Rattle.mdr_core.specs.declared.value.Value.TheVariants as value
 use Rattle.mdr_core.specs.Conversions.{promoted}
 use Rattle.mdr_core.specs.Folds.{before, call_of, called_of, code_of, codes_of, goal_of, lvalue_of, term_of, test_of}
@@ -25,22 +27,24 @@ use Rattle.mdr_core.specs.Kinds.{is_same_kind}
 use Rattle.mdr_core.specs.Layout.{chosen}
 use Rattle.mdr_core.specs.Typing.{Slot}
 use Rattle.mdr_rich.specs.declared.code.CallForm.{CallForm as RichCallForm}
+use Rattle.mdr_rich.specs.declared.code.Clause.{Clause as RichClause}
+use Rattle.mdr_rich.specs.declared.code.Step.TheViews.{roll-Clause}
 use Rattle.mdr_rich.specs.declared.code.Expr.{Expr as RichExpr}
 use Rattle.mdr_rich.specs.declared.code.Lval.{Lval as RichLval}
 use Rattle.mdr_rich.specs.declared.code.Step.{Step as RichStep, roll-Step}
-use Rattle.mdr_rich.specs.declared.code.Step.TheFolds.{ind-Stmt, map-Step, fold-roll-Step, fold_out-Stmt}
+use Rattle.mdr_rich.specs.declared.code.Step.TheFolds.{ind-Stmt, map-Step, fold-roll-Step, fold-roll-Clause, fold_out-Stmt}
 use Rattle.mdr_rich.specs.declared.code.Step.TheOpen.{Step-F}
 use Rattle.mdr_rich.specs.declared.code.Stmt.{Stmt as RichStmt}
 use Rattle.mdr_rich.proofs.Coded.{numbered as rich_numbered}
 use Rattle.mdr_rich.specs.Activity.{are_active, is_active, is_active_place}
 use Rattle.mdr_rich.specs.Carried.{type_at, type_of}
 use Rattle.mdr_rich.specs.Code.{Called, Lvalue, Term, Terms, Code as RichCode, Codes as RichCodes, term_list}
-use Rattle.mdr_rich.specs.Folds.{term_of as rich_term_of, lvalue_of as rich_lvalue_of, called_of as rich_called_of, call_of as rich_call_of, goal_of as rich_goal_of, test_of as rich_test_of, code_list as rich_code_list, before as rich_before, step_layer as rich_step_layer, stmt_layer as rich_stmt_layer, code_of as rich_code_of, codes_of as rich_codes_of}
+use Rattle.mdr_rich.specs.Folds.{Labelled, clause_list, clause_layer as rich_clause_layer, clause_of as rich_clause_of, term_of as rich_term_of, lvalue_of as rich_lvalue_of, called_of as rich_called_of, call_of as rich_call_of, goal_of as rich_goal_of, test_of as rich_test_of, code_list as rich_code_list, before as rich_before, step_layer as rich_step_layer, stmt_layer as rich_stmt_layer, code_of as rich_code_of, codes_of as rich_codes_of}
 use Rattle.mdr_lower.specs.declared.work.Work.{Work}
-use Rattle.mdr_lower.specs.Lowering.{always, arm, armed, as_call, as_kind, assigned, begun, blocked, bumped, call_lowered, call_made, called, choice, conjoined, counted, disjoined, done, element, expr_lowered, for_lowered, inside, keeps, kept, low, low_args, low_callee, low_place, lowered, mapped, outside, part, perhaps_lowered, place_lowered, put, repeated, run, slot_value, step_layer, step_lowered, step_operator, stepped, stepped_by, stmt, stmt_layer, stmt_lowered, target_lowered, tested, truth, turn, two, while_lowered, with_slot, within}
+use Rattle.mdr_lower.specs.Lowering.{Branch, again, always, arm, armed, as_call, as_kind, assigned, begun, blocked, bumped, call_lowered, call_made, called, choice, clause_layer, clause_lowered, conjoined, counted, counted_while, disjoined, do_lowered, done, element, expr_lowered, flagged, for_lowered, inside, is_label, is_labelled, keeps, kept, low, low_args, low_callee, low_place, lowered, mapped, or_label, outside, part, perhaps_lowered, place_lowered, put, repeated, run, slot_value, step_layer, step_lowered, step_operator, stepped, stepped_by, stmt, stmt_layer, stmt_lowered, switch_lowered, target_lowered, tested, tried, truth, turn, two, while_lowered, with_slot, within}
 use Rattle.mdr_scoped.specs.Scopes as plain
 use Rattle.mdr_scoped.specs.Scopes.{is_object}
-use Rattle.mdr_sound_scopes.specs.Named.{TermScoped, LvalueScoped, CalleeScoped, TermsScoped, FormScoped, GoalScoped, OptionScoped, CodeScoped, CodesScoped, behind}
+use Rattle.mdr_sound_scopes.specs.Named.{TermScoped, LvalueScoped, CalleeScoped, TermsScoped, FormScoped, GoalScoped, OptionScoped, CodeScoped, CodesScoped, ClausesScoped, behind}
 use Rattle.mdr_sound_scopes.proofs.Living.{behinds}
 
 -- ---- code behind code
@@ -205,8 +209,24 @@ module _ (all : List Slot) where
       by true = h
       by false = value_at (expr.Conv l e) (PlainTerm.Conv l (term_of e)) (conv_is l e) h
 
+    constant_scoped : (v : Value) → V (expr.Lit v)
+    constant_scoped v = value_at (expr.Lit v) (PlainTerm.Lit v) (lit_is v) tt
+
     literal_scoped : (k : Kind) → V (expr.Lit (value.Int k (pos 1)))
-    literal_scoped k = value_at (expr.Lit (value.Int k (pos 1))) (PlainTerm.Lit (value.Int k (pos 1))) (lit_is (value.Int k (pos 1))) tt
+    literal_scoped k = constant_scoped (value.Int k (pos 1))
+
+    -- ---- the labels of a clause, with which the value in a slot is tried
+
+    label_scoped : (i : ℕ) (v : Value) → V (is_label i v)
+    label_scoped i v = value_at (is_label i v) (PlainTerm.Rel Eq (term_of (slot_value i)) (term_of (expr.Lit v))) (rel_is Eq (slot_value i) (expr.Lit v)) (slot_scoped i, constant_scoped v)
+
+    or_label_scoped : (i : ℕ) (e : Expr) (vs : List Value) → V e → V (or_label i e vs)
+    or_label_scoped i e [] h = h
+    or_label_scoped i e (v ∷ vs) h = or_label_scoped i (expr.Or e (is_label i v)) vs (value_at (expr.Or e (is_label i v)) (PlainTerm.Or (term_of e) (term_of (is_label i v))) (or_is e (is_label i v)) (h, label_scoped i v))
+
+    labels_scoped : (i : ℕ) (vs : List Value) → V (is_labelled i vs)
+    labels_scoped i [] = constant_scoped (value.Int S32 (pos 0))
+    labels_scoped i (v ∷ vs) = or_label_scoped i (is_label i v) vs (label_scoped i v)
 
     stepped_by_scoped : (up : Bool) (e : Expr) (l : Ty-F Ty) → V e → V (stepped_by up e l)
     stepped_by_scoped up e (Ty-F.Int k) h =
@@ -375,6 +395,54 @@ choose_at : {all : List Slot} {first objects : List ℕ} {w v : Work} (c : Bool)
 choose_at true g h = g
 choose_at false g h = h
 
+-- code inside another, whatever stands around it
+abbrev Within : List Slot → List ℕ → List (Work → Work) → Type 0
+Within all objects fs = (w : Work) → plain.CodesScoped all objects (codes_of (within w fs).code)
+
+-- ---- loops, over their bodies
+
+module _ (all : List Slot) (n : ℕ) where
+  turn_scoped : (e : Term) (body : List (Work → Work)) (objects : List ℕ) → TermScoped objects e → Within all objects body → (w : Work) → plain.CodesScoped all objects (codes_of (turn n (low n e (inside w)) body).code)
+  turn_scoped e body objects h k w =
+      let v : Work = tested n (low n e (inside w)) in
+      (block_at all objects 0 v (within v body) (k v) (tested_at all objects n (low_at all objects n e h objects (inside w) (at_begin all objects w)))).scoped
+
+  while_scoped : (e : RichExpr) (body : List (Work → Work)) (objects : List ℕ) → TermScoped objects (rich_term_of e) → Within all objects body → (first : List ℕ) (w : Work) → At all first objects w → At all first objects (while_lowered n e body w)
+  while_scoped e body objects h k first w a =
+      let x : Work × Expr = expr_lowered n e w in
+      let g = low_at all objects n (rich_term_of e) h first w a in
+      choose_at (is_active (rich_term_of e))
+      (while_at all objects n w always (turn n (expr_lowered n e (inside w)) body) (literal_scoped all objects S32) (turn_scoped (rich_term_of e) body objects h k w) a)
+      (while_at all objects n x.0 x.1 (within x.0 body) g.value (k x.0) g.at)
+
+  -- behind what a `for` begins with, where more objects may live
+  counted_scoped : (front init : Work) (e : Term) (next body : List (Work → Work)) (objects more : List ℕ) → At all objects more init → TermScoped more e → Within all more next → Within all more body → (first : List ℕ) → At all first objects front → At all first objects (counted_while n front init e next body)
+  counted_scoped front init e next body objects more begins h k l first b =
+      let step : Work = within init next in
+      let x : Work × Option Expr = mapped Some (low n e (inside init)) in
+      let later : Work = within x.0 next in
+      choose_at (is_active e)
+      (counted_at all front n init None step (turn n (low n e (inside step)) body) begins tt (k init) (turn_scoped e body more h l step) b)
+      (counted_at all front n init x.1 later (within later body) begins (low_at all more n e h more (inside init) (at_begin all more init)).value (k x.0) (l later) b)
+
+  for_scoped : (front init : Work) (o : Option RichExpr) (next body : List (Work → Work)) (objects more : List ℕ) → At all objects more init → TermScoped more (rich_test_of o) → Within all more next → Within all more body → (first : List ℕ) → At all first objects front → At all first objects (for_lowered n front init o next body)
+  for_scoped front init None next body objects more begins h k l first b =
+      let step : Work = within init next in
+      counted_at all front n init None step (within step body) begins tt (k init) (l step) b
+  for_scoped front init (Some e) next body objects more begins h k l first b = counted_scoped front init (rich_term_of e) next body objects more begins h k l first b
+
+  -- a slot that tells whether it is the first turn
+  flag_scoped : (i : ℕ) (x : ℤ) (objects : List ℕ) (w : Work) → At all objects objects (flagged n i x (inside w))
+  flag_scoped i x objects w =
+      let one : Expr = expr.Lit (value.Int S32 x) in
+      assign_at all objects (inside w) n (lval.Slot i) one (slot_place all objects i) (constant_scoped all objects (value.Int S32 x)) (at_begin all objects w)
+
+  do_scoped : (e : RichExpr) (body : List (Work → Work)) (objects : List ℕ) → TermScoped objects (rich_term_of e) → Within all objects body → (first : List ℕ) (w : Work) → At all first objects w → At all first objects (do_lowered n e body w)
+  do_scoped e body objects h k first w a =
+      let front : Work = with_slot (type.Int S32) w in
+      counted_scoped front (flagged n w.next (pos 1) (inside front)) (again w.next (rich_term_of e)) (flagged n w.next (pos 0) ∷ []) body objects objects
+      (flag_scoped w.next (pos 1) objects front) (tt, h) (λ v. (flag_scoped w.next (pos 0) objects v).scoped) k first (at_same all front refl a)
+
 -- new slots are no objects
 module _ (slots all : List Slot) (same : (i : ℕ) → is_object (slice_get all i) ≡ is_object (slice_get slots i)) where
   scoped_front : (ds : List RichCode) (c : RichCode) (objects : List ℕ) → CodesScoped slots objects (rich_before ds c) → CodesScoped slots objects (rich_code_list ds) × CodeScoped slots (behinds slots objects (rich_code_list ds)) c
@@ -387,13 +455,24 @@ module _ (slots all : List Slot) (same : (i : ℕ) → is_object (slice_get all 
   abbrev StmtAt : RichStmt → Type 0
   StmtAt s = (objects : List ℕ) → CodeScoped slots objects (rich_code_of s) → (first : List ℕ) (w : Work) → At all first objects w → At all first (behind slots objects (rich_code_of s)) (stmt_lowered s w)
 
-  abbrev Written : Step-F RichStep RichStmt → ℕ → RichCode
-  Written l n = rich_step_layer (map-Step RichStep RichStmt (ℕ → RichCode) RichCode rich_numbered rich_code_of l) n
+  -- what stands behind labels, and what it is lowered to
+  abbrev BranchAt : Labelled → Branch → Type 0
+  BranchAt c b = (objects : List ℕ) → CodesScoped slots objects c.1 → Within all objects b.1
 
-  abbrev StepLayer : Step-F RichStep RichStmt → Type 0
-  StepLayer l = (n : ℕ) (objects : List ℕ) → CodeScoped slots objects (Written l n) → (first : List ℕ) (w : Work) → At all first objects w → At all first (behind slots objects (Written l n)) (step_layer (map-Step RichStep RichStmt (ℕ → Work → Work) (Work → Work) step_lowered stmt_lowered l) n w)
+  abbrev ClauseAt : RichClause → Type 0
+  ClauseAt c = BranchAt (rich_clause_of c) (clause_lowered c)
 
-  module _ {X Y : Type 0} (of : X → RichStep) (at : Y → RichStmt) (all_at : (y : Y) → StmtAt (at y)) where
+  abbrev Written : Step-F RichStep RichClause RichStmt → ℕ → RichCode
+  Written l n = rich_step_layer (map-Step RichStep RichClause RichStmt (ℕ → RichCode) Labelled RichCode rich_numbered rich_clause_of rich_code_of l) n
+
+  abbrev StepLayer : Step-F RichStep RichClause RichStmt → Type 0
+  StepLayer l = (n : ℕ) (objects : List ℕ) → CodeScoped slots objects (Written l n) → (first : List ℕ) (w : Work) → At all first objects w
+      → At all first (behind slots objects (Written l n)) (step_layer (map-Step RichStep RichClause RichStmt (ℕ → Work → Work) Branch (Work → Work) step_lowered clause_lowered stmt_lowered l) n w)
+
+  abbrev ClauseLayer : List Value → List RichStmt → Type 0
+  ClauseLayer labels body = BranchAt (labels, rich_code_list (map rich_code_of body)) (labels, map stmt_lowered body)
+
+  module _ {Y : Type 0} (at : Y → RichStmt) (all_at : (y : Y) → StmtAt (at y)) where
     abbrev Made : List Y → List (Work → Work)
     Made ys = map stmt_lowered (map at ys)
 
@@ -405,64 +484,67 @@ module _ (slots all : List Slot) (same : (i : ℕ) → is_object (slice_get all 
     list_at (y ∷ ys) objects h first w a = list_at ys (behind slots objects (rich_code_of (at y))) h.1 first (stmt_lowered (at y) w) (all_at y objects h.0 first w a)
 
     -- inside another
-    within_scoped : (ys : List Y) (objects : List ℕ) → CodesScoped slots objects (Rich ys) → (w : Work) → plain.CodesScoped all objects (codes_of (within w (Made ys)).code)
+    within_scoped : (ys : List Y) (objects : List ℕ) → CodesScoped slots objects (Rich ys) → Within all objects (Made ys)
     within_scoped ys objects h w = (list_at ys objects h objects (inside w) (at_begin all objects w)).scoped
 
-    turn_scoped : (n : ℕ) (e : RichExpr) (ys : List Y) (objects : List ℕ) → TermScoped objects (rich_term_of e) → CodesScoped slots objects (Rich ys) → (w : Work) → plain.CodesScoped all objects (codes_of (turn n (expr_lowered n e (inside w)) (Made ys)).code)
-    turn_scoped n e ys objects h k w =
-        let v : Work = tested n (expr_lowered n e (inside w)) in
-        (block_at all objects 0 v (within v (Made ys)) (within_scoped ys objects k v) (tested_at all objects n (low_at all objects n (rich_term_of e) h objects (inside w) (at_begin all objects w)))).scoped
+    body_at : (labels : List Value) (ys : List Y) → ClauseLayer labels (map at ys)
+    body_at labels ys objects h w = within_scoped ys objects h w
 
-    while_scoped : (n : ℕ) (e : RichExpr) (ys : List Y) (objects : List ℕ) → TermScoped objects (rich_term_of e) → CodesScoped slots objects (Rich ys) → (first : List ℕ) (w : Work) → At all first objects w → At all first objects (while_lowered n e (Made ys) w)
-    while_scoped n e ys objects h k first w a =
-        let x : Work × Expr = expr_lowered n e w in
-        let g = low_at all objects n (rich_term_of e) h first w a in
-        choose_at (is_active (rich_term_of e))
-        (while_at all objects n w always (turn n (expr_lowered n e (inside w)) (Made ys)) (literal_scoped all objects S32) (turn_scoped n e ys objects h k w) a)
-        (while_at all objects n x.0 x.1 (within x.0 (Made ys)) g.value (within_scoped ys objects k x.0) g.at)
+    module _ {X C : Type 0} (of : X → RichStep) (clause : C → RichClause) (all_clauses : (c : C) → ClauseAt (clause c)) where
+      -- each clause in the `else` of the one before it
+      tried_at : (n i : ℕ) (cs : List C) (ys : List Y) (objects : List ℕ) → ClausesScoped slots objects (clause_list (map rich_clause_of (map clause cs)) (Rich ys)) → (first : List ℕ) (w : Work) → At all first objects w
+          → At all first objects (tried n i (map clause_lowered (map clause cs)) (Made ys) w)
+      tried_at n i [] ys objects h first w a = block_at all objects 0 w (within w (Made ys)) (within_scoped ys objects h w) a
+      tried_at n i (c ∷ cs) ys objects h first w a =
+          let b : Branch = clause_lowered (clause c) in
+          let one : Work = within w b.1 in
+          let rest : List (Work → Work) = tried n i (map clause_lowered (map clause cs)) (Made ys) ∷ [] in
+          if_at all objects w n (is_labelled i b.0) one (within one rest) (labels_scoped all objects i b.0) (all_clauses c objects h.0 w)
+          (tried_at n i cs ys objects h.1 objects (inside one) (at_begin all objects one)).scoped a
 
-    for_scoped : (n : ℕ) (a : Work) (o : Option RichExpr) (xs ys : List Y) (objects more : List ℕ) → At all objects more a → TermScoped more (rich_test_of o) → CodesScoped slots more (Rich xs) → CodesScoped slots more (Rich ys) → (first : List ℕ) (w : Work) → At all first objects w → At all first objects (for_lowered n w a o (Made xs) (Made ys))
-    for_scoped n a None xs ys objects more init h k l first w b =
-        let next : Work = within a (Made xs) in
-        counted_at all w n a None next (within next (Made ys)) init tt (within_scoped xs more k a) (within_scoped ys more l next) b
-    for_scoped n a (Some e) xs ys objects more init h k l first w b =
-        let next : Work = within a (Made xs) in
-        let x : Work × Option Expr = mapped Some (expr_lowered n e (inside a)) in
-        let later : Work = within x.0 (Made xs) in
-        choose_at (is_active (rich_term_of e))
-        (counted_at all w n a None next (turn n (expr_lowered n e (inside next)) (Made ys)) init tt (within_scoped xs more k a) (turn_scoped n e ys more h l next) b)
-        (counted_at all w n a x.1 later (within later (Made ys)) init (low_at all more n (rich_term_of e) h more (inside a) (at_begin all more a)).value (within_scoped xs more k x.0) (within_scoped ys more l later) b)
+      switch_at : (n : ℕ) (e : RichExpr) (cs : List C) (ys : List Y) (objects : List ℕ) → TermScoped objects (rich_term_of e) → ClausesScoped slots objects (clause_list (map rich_clause_of (map clause cs)) (Rich ys)) → (first : List ℕ) (w : Work) → At all first objects w
+          → At all first objects (switch_lowered n e (map clause_lowered (map clause cs)) (Made ys) w)
+      switch_at n e cs ys objects h k first w a =
+          let x : Work × Expr = expr_lowered n e w in
+          let g = low_at all objects n (rich_term_of e) h first w a in
+          tried_at n x.0.next cs ys objects k first (kept n (type_of (rich_term_of e)) x).0 (kept_at all objects n (type_of (rich_term_of e)) g).at
 
-    step_at : (l : Step-F X Y) → StepLayer (map-Step X Y RichStep RichStmt of at l)
-    step_at (Step-F.Declare i) n objects h first w a = put_at all w n (step.Declare i) (Code.Declare n i) (declare_is n i) h (ap (λ b. chosen b (i ∷ objects) objects) (same i)) a
-    step_at (Step-F.Text i text) n objects h first w a = put_at all w n (step.Text i text) (Code.Text n i text) (text_is n i text) h refl a
-    step_at (Step-F.Assign p e) n objects h first w a = assigned_at all objects n p e h.0 h.1 first w a
-    step_at (Step-F.Call o form) n objects h first w a = call_made_at all objects n o form h.0 h.1 first w a
-    step_at (Step-F.If e xs ys) n objects h first w a =
-        let x : Work × Expr = expr_lowered n e w in
-        let one : Work = within x.0 (Made xs) in
-        let g = low_at all objects n (rich_term_of e) h.0 first w a in
-        if_at all objects x.0 n x.1 one (within one (Made ys)) g.value (within_scoped xs objects h.1 x.0) (within_scoped ys objects h.2 one) g.at
-    step_at (Step-F.While e ys) n objects h first w a = while_scoped n e ys objects h.0 h.2 first w a
-    step_at (Step-F.For init o xs ys) n objects h first w a =
-        let r = scoped_front (map rich_code_of (map at init)) (RichCode.Loop n (rich_test_of o) (Rich xs) (Rich ys)) objects h in
-        for_scoped n (within w (Made init)) o xs ys objects (behinds slots objects (Rich init)) (list_at init objects r.0 objects (inside w) (at_begin all objects w)) r.1.0 r.1.1 r.1.2 first w a
-    step_at (Step-F.Return o) n objects h first w a = return_at all objects n o h first w a
-    step_at (Step-F.ReturnCall form) n objects h first w a = back_at all objects n form h.1 first w a
-    step_at Step-F.Break n objects h first w a = put_at all w n step.Break (Code.Jump n Way.Breaks) (break_is n) tt refl a
-    step_at Step-F.Continue n objects h first w a = put_at all w n step.Continue (Code.Jump n Way.Continues) (continue_is n) tt refl a
-    step_at Step-F.Empty n objects h first w a = put_at all w n step.Empty (Code.Jump n Way.Ends) (empty_is n) tt refl a
-    step_at (Step-F.Block ys) n objects h first w a = block_at all objects n w (within w (Made ys)) (within_scoped ys objects h w) a
+      step_at : (l : Step-F X C Y) → StepLayer (map-Step X C Y RichStep RichClause RichStmt of clause at l)
+      step_at (Step-F.Declare i) n objects h first w a = put_at all w n (step.Declare i) (Code.Declare n i) (declare_is n i) h (ap (λ b. chosen b (i ∷ objects) objects) (same i)) a
+      step_at (Step-F.Text i text) n objects h first w a = put_at all w n (step.Text i text) (Code.Text n i text) (text_is n i text) h refl a
+      step_at (Step-F.Assign p e) n objects h first w a = assigned_at all objects n p e h.0 h.1 first w a
+      step_at (Step-F.Call o form) n objects h first w a = call_made_at all objects n o form h.0 h.1 first w a
+      step_at (Step-F.If e xs ys) n objects h first w a =
+          let x : Work × Expr = expr_lowered n e w in
+          let one : Work = within x.0 (Made xs) in
+          let g = low_at all objects n (rich_term_of e) h.0 first w a in
+          if_at all objects x.0 n x.1 one (within one (Made ys)) g.value (within_scoped xs objects h.1 x.0) (within_scoped ys objects h.2 one) g.at
+      step_at (Step-F.While e ys) n objects h first w a = while_scoped all n e (Made ys) objects h.0 (within_scoped ys objects h.2) first w a
+      step_at (Step-F.For init o xs ys) n objects h first w a =
+          let r = scoped_front (map rich_code_of (map at init)) (RichCode.Loop n (rich_test_of o) (Rich xs) (Rich ys)) objects h in
+          let more : List ℕ = behinds slots objects (Rich init) in
+          for_scoped all n w (within w (Made init)) o (Made xs) (Made ys) objects more (list_at init objects r.0 objects (inside w) (at_begin all objects w)) r.1.0 (within_scoped xs more r.1.1) (within_scoped ys more r.1.2) first a
+      step_at (Step-F.Do ys e) n objects h first w a = do_scoped all n e (Made ys) objects h.1 (within_scoped ys objects h.0) first w a
+      step_at (Step-F.Switch e cs ys) n objects h first w a = switch_at n e cs ys objects h.0 h.1 first w a
+      step_at (Step-F.Return o) n objects h first w a = return_at all objects n o h first w a
+      step_at (Step-F.ReturnCall form) n objects h first w a = back_at all objects n form h.1 first w a
+      step_at Step-F.Break n objects h first w a = put_at all w n step.Break (Code.Jump n Way.Breaks) (break_is n) tt refl a
+      step_at Step-F.Continue n objects h first w a = put_at all w n step.Continue (Code.Jump n Way.Continues) (continue_is n) tt refl a
+      step_at Step-F.Empty n objects h first w a = put_at all w n step.Empty (Code.Jump n Way.Ends) (empty_is n) tt refl a
+      step_at (Step-F.Block ys) n objects h first w a = block_at all objects n w (within w (Made ys)) (within_scoped ys objects h w) a
 
   stmt_at : (s : RichStmt) → StmtAt s
-  stmt_at = ind-Stmt StepAt StmtAt
-      (λ x y is n objects. subst (λ (c : RichCode). CodeScoped slots objects c → (first : List ℕ) (w : Work) → At all first objects w → At all first (behind slots objects c) (step_lowered (roll-Step x) n w)) (sym (ap (λ (f : ℕ → RichCode). f n) (fold-roll-Step (ℕ → RichCode) RichCode rich_step_layer rich_stmt_layer x)))
-      (λ h first w a. subst (λ (f : ℕ → Work → Work). At all first (behind slots objects (Written x n)) (f n w)) (sym (fold-roll-Step (ℕ → Work → Work) (Work → Work) step_layer stmt_layer x))
-      (subst StepLayer is (step_at (λ e. e.0) (λ e. e.0) (λ e. e.1) y) n objects h first w a)))
+  stmt_at = ind-Stmt StepAt ClauseAt StmtAt
+      (λ x y is n objects. subst (λ (c : RichCode). CodeScoped slots objects c → (first : List ℕ) (w : Work) → At all first objects w → At all first (behind slots objects c) (step_lowered (roll-Step x) n w)) (sym (ap (λ (f : ℕ → RichCode). f n) (fold-roll-Step (ℕ → RichCode) Labelled RichCode rich_step_layer rich_clause_layer rich_stmt_layer x)))
+      (λ h first w a. subst (λ (f : ℕ → Work → Work). At all first (behind slots objects (Written x n)) (f n w)) (sym (fold-roll-Step (ℕ → Work → Work) Branch (Work → Work) step_layer clause_layer stmt_layer x))
+      (subst StepLayer is (step_at (λ e. e.0) (λ e. e.1) (λ e. e.0) (λ e. e.0) (λ e. e.1) y) n objects h first w a)))
+      (λ x y is. subst (λ (c : Labelled). BranchAt c (clause_lowered (roll-Clause x))) (sym (fold-roll-Clause (ℕ → RichCode) Labelled RichCode rich_step_layer rich_clause_layer rich_stmt_layer x))
+      (subst (λ (b : Branch). BranchAt (x.labels, rich_code_list (map rich_code_of x.body)) b) (sym (fold-roll-Clause (ℕ → Work → Work) Branch (Work → Work) step_layer clause_layer stmt_layer x))
+      (subst (ClauseLayer x.labels) (ap (λ z. z.body) is) (body_at (λ e. e.0) (λ e. e.1) x.labels y.body))))
       (λ x y is objects.
       let s : RichStmt = record { number = x.number; step = x.step } in
-      subst (λ (c : RichCode). CodeScoped slots objects c → (first : List ℕ) (w : Work) → At all first objects w → At all first (behind slots objects c) (stmt_lowered s w)) (sym (fold_out-Stmt (ℕ → RichCode) RichCode rich_step_layer rich_stmt_layer s))
-      (λ h first w a. subst (λ (f : Work → Work). At all first (behind slots objects (rich_numbered x.step x.number)) (f w)) (sym (fold_out-Stmt (ℕ → Work → Work) (Work → Work) step_layer stmt_layer s))
+      subst (λ (c : RichCode). CodeScoped slots objects c → (first : List ℕ) (w : Work) → At all first objects w → At all first (behind slots objects c) (stmt_lowered s w)) (sym (fold_out-Stmt (ℕ → RichCode) Labelled RichCode rich_step_layer rich_clause_layer rich_stmt_layer s))
+      (λ h first w a. subst (λ (f : Work → Work). At all first (behind slots objects (rich_numbered x.step x.number)) (f w)) (sym (fold_out-Stmt (ℕ → Work → Work) Branch (Work → Work) step_layer clause_layer stmt_layer s))
       (subst StepAt (ap (λ z. z.step) is) y.step.1 x.number objects h first w a)))
 
   list_scoped : (ss : List RichStmt) (objects : List ℕ) → CodesScoped slots objects (rich_codes_of ss) → (first : List ℕ) (w : Work) → At all first objects w → At all first (behinds slots objects (rich_codes_of ss)) (run w (map stmt_lowered ss))

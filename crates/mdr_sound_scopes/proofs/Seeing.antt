@@ -109,6 +109,8 @@ module _ (program : Program) (slots : List Slot) (objects : List ℕ) where
   code_scoped result b (Code.Call n goal call) plain h = goes_scoped result goal call h.right
   code_scoped result b (Code.If n e one other) plain h = absurd plain
   code_scoped result b (Code.Loop n e step body) plain h = absurd plain
+  code_scoped result b (Code.Do n body e) plain h = absurd plain
+  code_scoped result b (Code.Switch n e clauses) plain h = absurd plain
   code_scoped result b (Code.Block body) plain h = absurd plain
   code_scoped result b (Code.Return n e) plain h = returns_scoped result e h.right
   code_scoped result b (Code.Jump n way) plain h = tt

@@ -1,5 +1,5 @@
 -- Statements without parts name objects only where they live.
-use Rattle.std.proofs.Common.{◌≡◌, ◌⊎◌, ℕ, ◌≤◌, Bool, false, List, length, Option, Some, None, Ok, refl, sym, ap, ◌∙◌, subst}
+use Rattle.std.proofs.Common.{◌≡◌, ◌⊎◌, ℕ, ◌≤◌, Bool, false, List, [], length, Option, Some, None, Ok, refl, sym, ap, ◌∙◌, subst}
 use Rattle.mdr_rich.specs.declared.code.Step.{Step}
 use Rattle.mdr_rich.specs.declared.code.Step.TheVariants as step
 use Rattle.mdr_rich.specs.declared.code.Stmt.{Stmt}
@@ -21,11 +21,14 @@ use Rattle.mdr_faults.specs.Declarations.{is_void}
 use Rattle.mdr_faults.specs.Faults.{Checked, Right, again}
 use Rattle.mdr_operand.specs.declared.room.LocalName.{LocalName}
 use Rattle.mdr_operand.specs.Written.{Written, Line}
+use Rattle.mdr_body.specs.declared.here.Breaks.{Breaks}
+use Rattle.mdr_body.specs.declared.here.Breaks.TheVariants as break_of
 use Rattle.mdr_body.specs.declared.here.Frame.{Frame}
 use Rattle.mdr_body.specs.declared.here.Here.{Here}
+use Rattle.mdr_body.specs.declared.here.Jumps.{Jumps}
 use Rattle.mdr_body.specs.Locals.{local_object, is_own_object, with_local}
 use Rattle.mdr_body.specs.Addresses.{takes_in, perhaps_takes, takes_at}
-use Rattle.mdr_body.specs.Statements.{Rules, stmt, single, stated, text_of, takes_text, is_single, own_place, initial_by, initial_step, declared_then, local_made, return_by, return_step, simple_made, simple_behind}
+use Rattle.mdr_body.specs.Statements.{Rules, stmt, single, stated, text_of, takes_text, is_single, own_place, initial_by, initial_step, declared_then, local_made, broken_by, broken, return_by, return_step, simple_made, simple_behind}
 use Rattle.mdr_sound_code.specs.Knowing.{KnowsLocals}
 use Rattle.mdr_sound_code.proofs.Rights.{not_right, same_right, after_right, chosen_right, refused_right}
 use Rattle.mdr_sound_bodies.specs.Rules.{IsSoundStep, IsRight, AreSoundRules}
@@ -153,38 +156,49 @@ module _ (program : Program) (slots : List Slot) (base : ℕ) (scope : Scope) (f
       let two = declared_two slots there objects n here.slot (code_of first) (code_of second) (declare_code slots n here.slot) (none_declared here objects live) live_there still in
       subst (λ xs. Leaves slots there objects false xs) (same_right _ _ a.made) (record { scoped = two.0; goes_on = λ q. two.1 })
 
-  pub simple_leaves : (here : Here) (objects : List ℕ) (in_loop t : Bool) (l : Line) (rest : List ℕ → Bool) (ss : List Stmt) → Live here objects → IsHere program slots base here (in_front l rest) → IsProper l → IsTold t l rest → AreDeclared slots base (simple_behind scope frame here t l).locals → simple_made rules scope frame in_loop here t l ≡ Right ss → Leaves slots (simple_behind scope frame here t l) objects false ss
-  simple_leaves here objects in_loop t (Line.Empty p) rest ss live h proper told declared e = leaves_one slots here objects false here.number step.Empty ss live (still_empty slots objects here.number) e
-  simple_leaves here objects in_loop t (Line.Block p ls) rest ss live h proper told declared e = not_right _ ss e
-  simple_leaves here objects in_loop t (Line.Local p d init) rest ss live h proper told declared e =
+  -- `break`, which is no statement at the end of a clause
+  broken_by_leaves : (here : Here) (objects : List ℕ) (n : ℕ) (p : Place) (in_loop : Bool) (leaves : Breaks) (ss : List Stmt) → Live here objects → broken_by n p in_loop leaves ≡ Right ss → Leaves slots here objects false ss
+  broken_by_leaves here objects n p in_loop break_of.Loop ss live e =
+      let j = jump_right program slots result p in_loop n step.Break ss e in
+      leaves_one slots here objects false n step.Break ss live (still_break slots objects n) (ap Right (sym j.is))
+  broken_by_leaves here objects n p in_loop break_of.Clause ss live e = subst (λ xs. Leaves slots here objects false xs) (same_right [] ss e) (record { scoped = tt; goes_on = λ q. live })
+  broken_by_leaves here objects n p in_loop break_of.Nothing ss live e = not_right _ ss e
+
+  broken_leaves : (here : Here) (objects : List ℕ) (n : ℕ) (p : Place) (jumps : Jumps) (ss : List Stmt) → Live here objects → broken n p jumps ≡ Right ss → Leaves slots here objects false ss
+  unfolding broken
+  broken_leaves here objects n p jumps ss live e = broken_by_leaves here objects n p jumps.in_loop jumps.breaks ss live e
+
+  pub simple_leaves : (here : Here) (objects : List ℕ) (jumps : Jumps) (t : Bool) (l : Line) (rest : List ℕ → Bool) (ss : List Stmt) → Live here objects → IsHere program slots base here (in_front l rest) → IsProper l → IsTold t l rest → AreDeclared slots base (simple_behind scope frame here t l).locals → simple_made rules scope frame jumps here t l ≡ Right ss → Leaves slots (simple_behind scope frame here t l) objects false ss
+  simple_leaves here objects jumps t (Line.Empty p) rest ss live h proper told declared e = leaves_one slots here objects false here.number step.Empty ss live (still_empty slots objects here.number) e
+  simple_leaves here objects jumps t (Line.Block p ls) rest ss live h proper told declared e = not_right _ ss e
+  simple_leaves here objects jumps t (Line.Local p d init) rest ss live h proper told declared e =
       let behind_it = here_local program slots base scope frame known here t p d init rest h proper.0 told declared in
       local_leaves here objects t d init ss h.number live (local_at slots base scope frame.locks here t d h.slot declared) behind_it.knows
       (perhaps_right program slots base scope frame known rules (sound slots) result (with_local scope frame.locks t d here) _ init behind_it (λ name n. or_left (perhaps_takes name init) (rest name) n) proper.1)
       e
-  simple_leaves here objects in_loop t (Line.Assign p at op x y) rest ss live h proper told declared e =
+  simple_leaves here objects jumps t (Line.Assign p at op x y) rest ss live h proper told declared e =
       let first = written_right program slots base scope frame known rules (sound slots) result here _ x h (λ name n. or_left (takes_in name x) _ (or_left (takes_at name (Line.Assign p at op x y)) _ n)) proper.0 in
       let second = written_right program slots base scope frame known rules (sound slots) result here _ y h (λ name n. or_right (takes_in name x) _ (or_left (takes_at name (Line.Assign p at op x y)) _ n)) proper.1 in
       let seen = knows_hidden program slots here objects h.knows live in
       stated_leaves program slots result here objects here.number (rules.assigned scope here.names at op x y) ss live
       (λ s is. (sound (hidden objects slots)).assigned here.names at op x y s result seen first second is) (plain.assigned here.names at op x y) h.number e
-  simple_leaves here objects in_loop t (Line.Plain p w) rest ss live h proper told declared e =
+  simple_leaves here objects jumps t (Line.Plain p w) rest ss live h proper told declared e =
       let right = written_right program slots base scope frame known rules (sound slots) result here _ w h (λ name n. or_left (takes_at name (Line.Plain p w)) _ n) proper in
       let seen = knows_hidden program slots here objects h.knows live in
       stated_leaves program slots result here objects here.number (rules.called scope here.names w) ss live
       (λ s is. (sound (hidden objects slots)).called here.names w s result seen right is) (plain.called here.names w) h.number e
-  simple_leaves here objects in_loop t (Line.If p w one other) rest ss live h proper told declared e = not_right _ ss e
-  simple_leaves here objects in_loop t (Line.While p w body) rest ss live h proper told declared e = not_right _ ss e
-  simple_leaves here objects in_loop t (Line.For p init test next body) rest ss live h proper told declared e = not_right _ ss e
-  simple_leaves here objects in_loop t (Line.Do p body w) rest ss live h proper told declared e = not_right _ ss e
-  simple_leaves here objects in_loop t (Line.Switch p w cs) rest ss live h proper told declared e = not_right _ ss e
-  simple_leaves here objects in_loop t (Line.Return p w) rest ss live h proper told declared e =
+  simple_leaves here objects jumps t (Line.If p w one other) rest ss live h proper told declared e = not_right _ ss e
+  simple_leaves here objects jumps t (Line.While p w body) rest ss live h proper told declared e = not_right _ ss e
+  simple_leaves here objects jumps t (Line.For p init test next body) rest ss live h proper told declared e = not_right _ ss e
+  simple_leaves here objects jumps t (Line.Do p body w) rest ss live h proper told declared e = not_right _ ss e
+  simple_leaves here objects jumps t (Line.Switch p w cs) rest ss live h proper told declared e = not_right _ ss e
+  simple_leaves here objects jumps t (Line.Return p w) rest ss live h proper told declared e =
       let right = perhaps_right program slots base scope frame known rules (sound slots) result here _ w h (λ name n. or_left (takes_at name (Line.Return p w)) _ n) proper in
       let seen = knows_hidden program slots here objects h.knows live in
       stated_leaves program slots result here objects here.number (return_step rules scope frame here p w) ss live
       (λ s is. return_sound program (hidden objects slots) base scope frame known rules (sound (hidden objects slots)) result here p w s gives given seen right is) (return_step_plain scope rules plain frame here p w) h.number e
-  simple_leaves here objects in_loop t (Line.Break p) rest ss live h proper told declared e =
-      let j = jump_right program slots result p in_loop here.number step.Break ss e in
-      leaves_one slots here objects false here.number step.Break ss live (still_break slots objects here.number) (ap Right (sym j.is))
-  simple_leaves here objects in_loop t (Line.Continue p) rest ss live h proper told declared e =
-      let j = jump_right program slots result p in_loop here.number step.Continue ss e in
+  simple_leaves here objects jumps t (Line.Break p) rest ss live h proper told declared e =
+      broken_leaves here objects here.number p jumps ss live e
+  simple_leaves here objects jumps t (Line.Continue p) rest ss live h proper told declared e =
+      let j = jump_right program slots result p jumps.in_loop here.number step.Continue ss e in
       leaves_one slots here objects false here.number step.Continue ss live (still_continue slots objects here.number) (ap Right (sym j.is))

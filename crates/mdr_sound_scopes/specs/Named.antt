@@ -3,7 +3,7 @@
 use Rattle.std.specs.Prelude.{◌≡◌, ℕ, true, false, List, ◌∷◌, Option, Some, None, slice_get}
 use Rattle.mdr_core.specs.Layout.{chosen}
 use Rattle.mdr_core.specs.Typing.{Slot}
-use Rattle.mdr_rich.specs.Code.{Term, Lvalue, Called, Terms, CallOf, Goal, Code, Codes, term_list}
+use Rattle.mdr_rich.specs.Code.{Term, Lvalue, Called, Terms, CallOf, Goal, Code, Codes, Clauses, term_list}
 use Rattle.mdr_scoped.specs.Scopes.{is_there, is_object}
 
 -- each object that is named lives
@@ -72,6 +72,8 @@ abbrev mutual
   CodeScoped slots objects (Code.Call n goal form) = GoalScoped objects goal × FormScoped objects form
   CodeScoped slots objects (Code.If n e one other) = TermScoped objects e × CodesScoped slots objects one × CodesScoped slots objects other
   CodeScoped slots objects (Code.Loop n e step body) = TermScoped objects e × CodesScoped slots objects step × CodesScoped slots objects body
+  CodeScoped slots objects (Code.Do n body e) = CodesScoped slots objects body × TermScoped objects e
+  CodeScoped slots objects (Code.Switch n e clauses) = TermScoped objects e × ClausesScoped slots objects clauses
   CodeScoped slots objects (Code.Block body) = CodesScoped slots objects body
   CodeScoped slots objects (Code.Return n e) = OptionScoped objects e
   CodeScoped slots objects (Code.Jump n way) = Unit {0}
@@ -79,3 +81,7 @@ abbrev mutual
   pub CodesScoped : List Slot → List ℕ → Codes → Type 0
   CodesScoped slots objects Codes.End = Unit {0}
   CodesScoped slots objects (Codes.Then c cs) = CodeScoped slots objects c × CodesScoped slots (behind slots objects c) cs
+
+  pub ClausesScoped : List Slot → List ℕ → Clauses → Type 0
+  ClausesScoped slots objects (Clauses.Default body) = CodesScoped slots objects body
+  ClausesScoped slots objects (Clauses.Clause labels body rest) = CodesScoped slots objects body × ClausesScoped slots objects rest

@@ -18,7 +18,7 @@ use Rattle.mdr_source.specs.declared.refusal.Refusal.{Refusal}
 use Rattle.mdr_source.specs.declared.refusal.Refusal.TheVariants as refusal
 use Rattle.mdr_source.specs.declared.outcome.Source.{Source}
 use Rattle.mdr_source.specs.Backs.{functions_call_back}
-use Rattle.mdr_source.specs.Sources.{Judged, Means, Reading, Comes}
+use Rattle.mdr_source.specs.Sources.{Judged, Means, Reading, Comes, typed_tree}
 use Rattle.mdr_source.proofs.Firsts.{one_first_fault, one_first}
 
 not_both : {b : Bool} → b ≡ true → b ≡ false → ⊥
@@ -47,10 +47,7 @@ one_judged c _ _ (Judged.right p d s m) (Judged.back q e t) = absurd (back_here 
 one_judged c _ _ (Judged.right p d s m) (Judged.right q e t n) = ap (λ x. Ok x) (same_program c p q d e)
 
 one_meaning : (tree : Tree) (r s : Result Program Refusal) → Means tree r → Means tree s → r ≡ s
-one_meaning tree _ _ (Means.unbuilt d) (Means.unbuilt e) = refl
-one_meaning tree _ s (Means.unbuilt d) (Means.built e k) = absurd (not_both d e)
-one_meaning tree r _ (Means.built d j) (Means.unbuilt e) = absurd (not_both e d)
-one_meaning tree r s (Means.built d j) (Means.built e k) = one_judged _ r s j k
+one_meaning tree r s j k = one_judged (typed_tree tree) r s j k
 
 -- ---- trees
 

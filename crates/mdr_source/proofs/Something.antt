@@ -19,7 +19,6 @@ use Rattle.mdr_faults.proofs.Least.{first_is_in, first_is_least}
 use Rattle.mdr_source.specs.declared.refusal.Refusal.{Refusal}
 use Rattle.mdr_source.specs.declared.outcome.Source.{Source}
 use Rattle.mdr_source.specs.Backs.{functions_call_back}
-use Rattle.mdr_source.specs.Unbuilt.{waits}
 use Rattle.mdr_source.specs.Sources.{Judged, Means, Reading, Comes, IsTooLarge, typed_tree}
 use Rattle.mdr_source.proofs.Lexed.{IsTold, tokens_told}
 
@@ -74,18 +73,14 @@ judgement (Right program) = by_test (functions_call_back program.funcs) refl
 
 data Meaning (tree : Tree) : Type 0 where
   come : (r : Result Program Refusal) → Means tree r → Meaning tree
-  large : waits tree.items ≡ false → Large (typed_tree tree) → Meaning tree
+  large : Large (typed_tree tree) → Meaning tree
 
-built_meaning : (tree : Tree) → waits tree.items ≡ false → Judgement (typed_tree tree) → Meaning tree
-built_meaning tree b (Judgement.come r j) = Meaning.come r (Means.built b j)
-built_meaning tree b (Judgement.large l) = Meaning.large b l
+judged_meaning : (tree : Tree) → Judgement (typed_tree tree) → Meaning tree
+judged_meaning tree (Judgement.come r j) = Meaning.come r j
+judged_meaning tree (Judgement.large l) = Meaning.large l
 
 meaning : (tree : Tree) → Meaning tree
-meaning tree = by_test (waits tree.items) refl
-  where
-    by_test : (t : Bool) → waits tree.items ≡ t → Meaning tree
-    by_test true e = Meaning.come _ (Means.unbuilt e)
-    by_test false e = built_meaning tree e (judgement (typed_tree tree))
+meaning tree = judged_meaning tree (judgement (typed_tree tree))
 
 -- ---- tokens
 
@@ -96,7 +91,7 @@ data Outcome (bytes : List ℕ) : Type 0 where
 tree_outcome : (bytes : List ℕ) (ts : List Token) (tree : Tree) → tokens_of bytes ≡ Ok ts → Reads false ts tree → Meaning tree → Outcome bytes
 tree_outcome bytes ts tree e r (Meaning.come (Ok program) m) = Outcome.come _ (Comes.tokens ts e (Reading.right tree program r m))
 tree_outcome bytes ts tree e r (Meaning.come (Err x) m) = Outcome.come _ (Comes.tokens ts e (Reading.refused tree x r m))
-tree_outcome bytes ts tree e r (Meaning.large b l) = Outcome.large (record { tokens = ts; are_tokens = e; tree = tree; reads = r; built = b; program = l.program; judged = l.is; no_back = l.no_back; many = l.many })
+tree_outcome bytes ts tree e r (Meaning.large l) = Outcome.large (record { tokens = ts; are_tokens = e; tree = tree; reads = r; program = l.program; judged = l.is; no_back = l.no_back; many = l.many })
 
 fault_outcome : (bytes : List ℕ) (ts : List Token) (n : ℕ) → tokens_of bytes ≡ Ok ts → FirstFault false ts n → Outcome bytes
 fault_outcome bytes ts n e f = by_token (slice_get ts n) refl

@@ -23,7 +23,6 @@ use Rattle.mdr_source.specs.declared.refusal.Refusal.{Refusal}
 use Rattle.mdr_source.specs.declared.refusal.Refusal.TheVariants as refusal
 use Rattle.mdr_source.specs.declared.outcome.Source.{Source}
 use Rattle.mdr_source.specs.Backs.{functions_call_back}
-use Rattle.mdr_source.specs.Unbuilt.{waits}
 
 -- the program of a tree, or all faults in it
 abbrev pub typed_tree : Tree → Checked Program
@@ -35,16 +34,15 @@ refused_as (parse.NotInProfile p word) = Some (refusal.NotInProfile p word)
 refused_as (parse.Expected p) = Some (refusal.Expected p)
 refused_as parse.OutOfMemory = None
 
--- a tree of built forms whose types are judged. The program of one that is right has few types, globals, structs and functions: a larger one finds no memory
+-- the types of a tree, judged. The program of one that is right has few types, globals, structs and functions: a larger one finds no memory
 pub data Judged (c : Checked Program) : Result Program Refusal → Type 0 where
   fault : (f : Fault) → IsFirst f c → Judged c (Err (refusal.Fault f))
   back : (program : Program) → c ≡ Right program → functions_call_back program.funcs ≡ true → Judged c (Err refusal.Unbuilt)
   right : (program : Program) → c ≡ Right program → functions_call_back program.funcs ≡ false → HasFewNumbers program → Judged c (Ok program)
 
 -- a tree
-pub data Means (tree : Tree) : Result Program Refusal → Type 0 where
-  unbuilt : waits tree.items ≡ true → Means tree (Err refusal.Unbuilt)
-  built : {r : Result Program Refusal} → waits tree.items ≡ false → Judged (typed_tree tree) r → Means tree r
+abbrev pub Means : Tree → Result Program Refusal → Type 0
+Means tree r = Judged (typed_tree tree) r
 
 -- tokens
 pub data Reading (ts : List Token) : Result Source Refusal → Type 0 where
@@ -68,7 +66,6 @@ pub record IsSource (bytes : List ℕ) (source : Source) : Type 0 where
   pub tokens : List Token
   pub are_tokens : tokens_of bytes ≡ Ok tokens
   pub reads : Reads false tokens source.tree
-  pub built : waits source.tree.items ≡ false
   pub judged : typed_tree source.tree ≡ Right source.program
   pub no_back : functions_call_back source.program.funcs ≡ false
   pub numbers : HasFewNumbers source.program
@@ -79,7 +76,6 @@ pub record IsTooLarge (bytes : List ℕ) : Type 0 where
   pub are_tokens : tokens_of bytes ≡ Ok tokens
   pub tree : Tree
   pub reads : Reads false tokens tree
-  pub built : waits tree.items ≡ false
   pub program : Program
   pub judged : typed_tree tree ≡ Right program
   pub no_back : functions_call_back program.funcs ≡ false

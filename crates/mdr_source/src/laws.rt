@@ -1,12 +1,9 @@
 // Laws of sources, each the contract of a function that does nothing.
 
-ghost use Rattle.std.specs.List.{list_all, list_any};
-ghost use Rattle.std.specs.Prelude.{◌≡◌, ◌↔◌, ◌⊎◌, ℕ, true, false, List, Result, Ok};
+ghost use Rattle.std.specs.Prelude.{◌≡◌, ◌↔◌, ◌⊎◌, ℕ, List, Result, Ok};
 ghost use Rattle.mdr_source.specs.declared.outcome.Source.{Source};
 ghost use Rattle.mdr_source.specs.declared.refusal.Refusal.{Refusal};
 ghost use Rattle.mdr_source.specs.Sources.{Comes, IsSource, IsTooLarge};
-ghost use Rattle.mdr_source.specs.Unbuilt.{line_waits};
-ghost use Rattle.mdr_source.specs.Worked.{built, unbuilt};
 
 /// Bytes come to at most one thing: to one tree and its program, or to one refusal.
 pub fn bytes_come_to_one_thing()
@@ -21,9 +18,4 @@ pub fn bytes_come_to_something()
 /// Bytes come to a tree and a program exactly where these are theirs.
 pub fn bytes_come_to_their_source()
     ensures { (bytes : List ℕ) (source : Source) → Comes bytes (Ok source) ↔ IsSource bytes source }
-{}
-
-/// Statements worked out: none of the one list waits to be built, each of the other does.
-pub fn some_statements_wait()
-    ensures { (list_any line_waits built ≡ false) × (list_all line_waits unbuilt ≡ true) }
 {}

@@ -7,17 +7,12 @@ mod lines;
 mod outcome;
 mod put;
 mod refusal;
-mod unbuilt;
 mod whole;
 
 pub use backs::functions_call_back;
-pub use laws::{
-    bytes_come_to_one_thing, bytes_come_to_something, bytes_come_to_their_source,
-    some_statements_wait,
-};
+pub use laws::{bytes_come_to_one_thing, bytes_come_to_something, bytes_come_to_their_source};
 pub use lines::refusal_line;
 pub use outcome::Source;
 pub use put::{put_bytes, put_newline, put_number, put_word};
 pub use refusal::Refusal;
-pub use unbuilt::waits;
 pub use whole::source;

@@ -6,12 +6,11 @@ ghost use Rattle.mdr_syntax.specs.declared.token.Token.{Token as OneToken};
 ghost use Rattle.mdr_grammar.specs.Grammar.{Reads};
 ghost use Rattle.mdr_faults.specs.Faults.{Checked, Right, IsFirst};
 ghost use Rattle.mdr_source.specs.declared.refusal.Refusal.TheVariants as refusal;
-ghost use Rattle.mdr_source.specs.Sources.{refused_as, Judged, Means, Reading, Comes, typed_tree};
+ghost use Rattle.mdr_source.specs.Sources.{refused_as, Judged, Means, Reading, Comes};
 
 use crate::backs::functions_call_back;
 use crate::outcome::Source;
 use crate::refusal::Refusal;
-use crate::unbuilt::waits;
 use mdr_body::Rule;
 use mdr_core::{Limit, OutOfMemory, Program, has_few_numbers};
 use mdr_express::left_over;
@@ -59,7 +58,7 @@ fn judged(found: Result<Program, Fault>) -> Result<Result<Program, Refusal>, Out
 }
 
 fn typed(alloc: Global, tree: &Tree) -> Result<Result<Program, Refusal>, OutOfMemory>
-    ensures { IfOk result (Judged (typed_tree tree.now)) }
+    ensures { IfOk result (Means tree.now) }
 {
     let found = check(
         alloc,
@@ -69,16 +68,6 @@ fn typed(alloc: Global, tree: &Tree) -> Result<Result<Program, Refusal>, OutOfMe
         tree,
     )?;
     judged(found)
-}
-
-fn means(alloc: Global, tree: &Tree) -> Result<Result<Program, Refusal>, OutOfMemory>
-    ensures { IfOk result (Means tree.now) }
-{
-    if waits(tree.items.as_slice()) {
-        return Ok(Err(Refusal::Unbuilt));
-    }
-    let program = typed(alloc, tree)?;
-    Ok(program)
 }
 
 // ---- sources
@@ -104,7 +93,7 @@ fn refused_as(error: ParseError) -> Result<Refusal, OutOfMemory>
 fn of_tree(alloc: Global, tree: Tree) -> Result<Result<Source, Refusal>, OutOfMemory>
     ensures { (ts : List OneToken) → Reads false ts tree → IfOk result (Reading ts) }
 {
-    match means(alloc, &tree) {
+    match typed(alloc, &tree) {
         Ok(Ok(program)) => Ok(Ok(Source { tree, program })),
         Ok(Err(refusal)) => Ok(refused(refusal, tree)),
         Err(error) => left_over(error, tree),
@@ -120,8 +109,8 @@ fn of_tokens(alloc: Global, tokens: &[Token]) -> Result<Result<Source, Refusal>,
     }
 }
 
-/// The tree and the program of a source, or the one thing for which it is refused: of its tokens, of its grammar, a
-/// form that isn't built, the first fault of its types, or a service that isn't built.
+/// The tree and the program of a source, or the one thing for which it is refused: of its tokens, of its grammar, the
+/// first fault of its types, or a service that isn't built.
 pub fn source(alloc: Global, bytes: &[u8]) -> Result<Result<Source, Refusal>, OutOfMemory>
     ensures { IfOk result (Comes bytes.now) }
 {

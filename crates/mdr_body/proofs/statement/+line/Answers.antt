@@ -11,7 +11,7 @@ use Rattle.mdr_body.proofs.statement.+line.Goals as goal
 
 pub lines-loop-i-preserved : goal.lines-loop-i-preserved
 lines-loop-i-preserved g t c = record {
-  told = one_line (g.R.Typing.rules c.args.rules.now) c.args.scope.now c.args.frame.now c.args.in_loop c.loop-i.here c.line.new.here c.args.nodes.now c.loop-i.i c.index-nodes-i.result c.taken_at.result _ c.loop-i.all _ _ c.loop-i-test.true c.index-nodes-i.is c.taken_at.ensures c.in_ok-made.ensures.grown c.in_ok-made.ensures.told c.in_ok-all.ensures c.loop-i.invariant.told;
+  told = one_line (g.R.Typing.rules c.args.rules.now) c.args.scope.now c.args.frame.now c.args.jumps c.jumps_at.result c.loop-i.here c.line.new.here c.args.nodes.now c.loop-i.i c.index-nodes-i.result c.taken_at.result _ c.loop-i.all _ _ c.loop-i-test.true c.index-nodes-i.is c.jumps_at.ensures c.taken_at.ensures c.in_ok-made.ensures.grown c.in_ok-made.ensures.told c.in_ok-all.ensures c.loop-i.invariant.told;
   grown = one_behind_line c.args.scope.now c.args.frame.now c.loop-i.here c.line.new.here _ c.args.nodes.now c.loop-i.i c.index-nodes-i.result c.taken_at.result c.loop-i-test.true c.index-nodes-i.is c.taken_at.ensures c.in_ok-made.ensures.grown c.loop-i.invariant.grown;
 }
 
@@ -20,11 +20,11 @@ lines-returns-clause-grown g t c = sym (at_drop_all (λ ys. lines_behind c.args.
 
 pub line_at-returns-in_default : goal.line_at-returns-in_default
 line_at-returns-in_default g t c = record {
-  told = told_same c.simple_counted.result _ _ (made_simple (g.R.Typing.rules c.args.rules.now) c.args.scope.now c.args.frame.now c.args.in_loop c.args.is_part c.args.here.now c.args.is_taken c.args.what.now c.in_default.not-Block c.in_default.not-If c.in_default.not-While c.in_default.not-For c.args.place) c.simple_counted.ensures.told;
-  grown = grown_same c.simple_counted.result _ _ _ (behind_made_simple c.args.scope.now c.args.frame.now c.args.here.now c.args.is_taken c.args.what.now c.in_default.not-Block c.in_default.not-If c.in_default.not-While c.in_default.not-For c.args.place) c.simple_counted.ensures.grown;
+  told = told_same c.simple_counted.result _ _ (made_simple (g.R.Typing.rules c.args.rules.now) c.args.scope.now c.args.frame.now c.args.jumps c.args.is_part c.args.here.now c.args.is_taken c.args.what.now c.in_default.not-Block c.in_default.not-If c.in_default.not-While c.in_default.not-For c.in_default.not-Do c.in_default.not-Switch c.args.place) c.simple_counted.ensures.told;
+  grown = grown_same c.simple_counted.result _ _ _ (behind_made_simple c.args.scope.now c.args.frame.now c.args.here.now c.args.is_taken c.args.what.now c.in_default.not-Block c.in_default.not-If c.in_default.not-While c.in_default.not-For c.in_default.not-Do c.in_default.not-Switch c.args.place) c.simple_counted.ensures.grown;
 }
 
 pub if_half-returns-in-Ok-clause-told : goal.if_half-returns-in-Ok-clause-told
 if_half-returns-in-Ok-clause-told g t c =
     c.paired.ensures _ _ c.in_ok-head.ensures.told
-    (c.in-Ok.ensures.told ∙ ap (λ (h : Here). told (line_made (g.R.Typing.rules c.args.rules.now) c.args.scope.now c.args.frame.now c.args.in_loop true h false (line_of c.args.one.now))) c.in_ok-head.ensures.grown)
+    (c.in-Ok.ensures.told ∙ ap (λ (h : Here). told (line_made (g.R.Typing.rules c.args.rules.now) c.args.scope.now c.args.frame.now c.args.jumps true h false (line_of c.args.one.now))) c.in_ok-head.ensures.grown)

@@ -1,0 +1,4 @@
+pub mod Filing
+pub mod Matching
+pub mod Running
+pub mod Sourced
