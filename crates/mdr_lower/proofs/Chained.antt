@@ -1,5 +1,5 @@
 -- The clauses of a `switch`, as code makes them: first each clause by itself, and then one in the other.
-use Rattle.std.proofs.Common.{◌≡◌, ℕ, suc, ◌+◌, List, [], ◌∷◌, ◌++◌, length, map, refl, sym, ap, ◌∙◌, append-nil, append_assoc}
+use Rattle.std.proofs.Common.{◌≡◌, ℕ, ◌+◌, List, [], ◌∷◌, ◌++◌, length, map, refl, sym, ap, ◌∙◌, append-nil, append_assoc, arith}
 use Rattle.mdr_core.specs.declared.code.Expr.{Expr}
 use Rattle.mdr_core.specs.declared.code.Step.TheVariants as step
 use Rattle.mdr_core.specs.declared.code.Stmt.{Stmt}
@@ -25,7 +25,7 @@ chain_last n (x ∷ xs) a s = ap (way n x) (chain_last n xs a s)
 
 pub one_less : (ys : List Arm) (a : Arm) → length (ys ++ a ∷ []) ≡ length ys + 1
 one_less [] a = refl
-one_less (x ∷ xs) a = ap suc (one_less xs a)
+one_less (x ∷ xs) a = let e : length (xs ++ a ∷ []) ≡ length xs + 1 = one_less xs a in omega (arith, e)
 
 -- arms behind others
 arms_behind : (i : ℕ) (cs : List Branch) (xs : List Arm) (w : Work) → arms i cs xs w ≡ ((arms i cs [] w).0, xs ++ (arms i cs [] w).1)

@@ -1,18 +1,18 @@
 -- Lowered code has the types that the code had.
 use Rattle.std.specs.Option.{option_map}
+use Rattle.mdr_rich.specs.declared.code.Clause.{Clause as RichClause}
 use Rattle.mdr_rich.specs.declared.code.Stmt.{Stmt as RichStmt}
 use Rattle.mdr_rich.specs.declared.code.Step.TheFolds.{ind-Stmt, map-Step, fold-roll-Step, fold-roll-Clause, fold_out-Stmt}
 use Rattle.mdr_rich.specs.declared.code.Step.TheViews.{roll-Clause}
-use Rattle.mdr_rich.specs.declared.code.Clause.{Clause as RichClause}
 use Rattle.mdr_rich.specs.declared.code.Step.TheOpen.{Step-F}
 use Rattle.mdr_rich.specs.declared.code.Step.{Step as RichStep}
 use Rattle.mdr_rich.specs.declared.code.Lval.{Lval as RichLval}
 use Rattle.mdr_rich.specs.declared.code.Expr.{Expr as RichExpr}
 use Rattle.mdr_rich.specs.declared.code.CallForm.{CallForm as RichCallForm}
 use Rattle.mdr_rich.proofs.Coded.{numbered as rich_numbered}
-use Rattle.mdr_rich.specs.Folds.{Labelled, clause_list, clause_layer as rich_clause_layer, clause_of as rich_clause_of, term_of as rich_term_of, lvalue_of as rich_lvalue_of, called_of as rich_called_of, call_of as rich_call_of, goal_of as rich_goal_of, test_of as rich_test_of, code_list as rich_code_list, before as rich_before, step_layer as rich_step_layer, stmt_layer as rich_stmt_layer, code_of as rich_code_of, codes_of as rich_codes_of}
+use Rattle.mdr_rich.specs.Folds.{term_of as rich_term_of, lvalue_of as rich_lvalue_of, called_of as rich_called_of, call_of as rich_call_of, goal_of as rich_goal_of, test_of as rich_test_of, code_list as rich_code_list, before as rich_before, Labelled, clause_list, step_layer as rich_step_layer, clause_layer as rich_clause_layer, stmt_layer as rich_stmt_layer, code_of as rich_code_of, clause_of as rich_clause_of, codes_of as rich_codes_of}
 use Rattle.std.proofs.lemmas.Option.{none-some, same_Some}
-use Rattle.std.proofs.Common.{Bool, List, None, Option, Some, [], ap, append-nil, append_assoc, arith, false, inl, inr, length, map, refl, slice_get, subst, suc, sym, true, zero, ℕ, ⊎_elim, ◌++◌, ◌+◌, ◌∙◌, ◌∷◌, ◌≡◌, ◌≤◌, IsTrue, pos, ℤ}
+use Rattle.std.proofs.Common.{Bool, List, None, Option, Some, ℤ, [], ap, append-nil, append_assoc, arith, false, inl, inr, length, map, refl, slice_get, subst, suc, sym, true, zero, ℕ, ⊎_elim, ◌++◌, ◌+◌, ◌∙◌, ◌∷◌, ◌≡◌, ◌≤◌, IsTrue, pos}
 use Rattle.mdr_core.proofs.Coded.{addr_is, and_is, assign_is, bin_is, call_is, code_is, conv_is, decay_is, deref_is, diff_is, flip_is, from_void_is, global_is, if_is, index_is, lit_is, load_is, member_is, move_is, neg_is, not_is, numbered, object_is, or_is, rel_is, slot_is, to_void_is, declare_is, text_is, while_is, for_is, return_is, return_call_is, break_is, continue_is, empty_is, block_is}
 use Rattle.mdr_core.specs.Code.{Code, Codes, Lvalue as PlainLvalue, Term as PlainTerm}
 use Rattle.mdr_core.specs.Folds.{call_of, called_of, code_of, codes_of, goal_of, lvalue_of, term_of, test_of, before}
@@ -20,8 +20,8 @@ use Rattle.mdr_core.specs.Kinds.{is_in_range}
 use Rattle.mdr_core.specs.Layout.{chosen}
 use Rattle.mdr_core.specs.Services.{RequestIrq, Service}
 use Rattle.mdr_core.specs.TypeText.{Allocates, AllocatesIn}
-use Rattle.mdr_core.specs.Types.{Becomes, HasNumber, becomes_by, is_pointer, is_pointer_by, is_scalar}
-use Rattle.mdr_core.specs.Typing.{AreTyped, CallGives, Designates, Extent, GoesTo, Has, HasAddress, HaveAll, IsCondition, IsTyped, Literal, Many, NamesHandler, NamesObject, One, RightOperand, Slot, gives_by, int, ptr, slot_of_local, struct_type, void_ptr, CallsFunction, Returns}
+use Rattle.mdr_core.specs.Types.{Becomes, HasNumber, becomes_by, is_scalar}
+use Rattle.mdr_core.specs.Typing.{AreTyped, CallGives, Designates, Extent, GoesTo, Has, HasAddress, HaveAll, IsCondition, IsTyped, Many, Literal, NamesHandler, NamesObject, One, RightOperand, Slot, gives_by, int, ptr, slot_of_local, struct_type, void_ptr, CallsFunction, Returns}
 use Rattle.mdr_core.specs.declared.code.BinOp.TheVariants.{Add, BitAnd, BitOr, BitXor, Div, Mul, Rem, Shl, Shr, Sub}
 use Rattle.mdr_core.specs.declared.code.BinOp.{BinOp}
 use Rattle.mdr_core.specs.declared.code.CallForm.{CallForm}
@@ -47,11 +47,11 @@ use Rattle.mdr_core.specs.declared.value.Value.{Value}
 use Rattle.mdr_core.specs.declared.value.Value.TheVariants as value
 use Rattle.mdr_rich.specs.Activity.{are_active, is_active, is_active_place}
 use Rattle.mdr_rich.specs.Carried.{type_at, type_of}
-use Rattle.mdr_rich.specs.Code.{Called, Lvalue, Term, Terms, Code as RichCode, term_list, Goal as RichGoal}
-use Rattle.mdr_rich.specs.Typing.{Designates as RichDesignates, HandlerAmong, Has as RichHas, HasAddress as RichHasAddress, HasEach, IsScalar, PointerHas, gives_of, type_in, IsShape, IsStepped, NamesHandler as RichNamesHandler, CallGives as RichCallGives, GoesTo as RichGoesTo, Returns as RichReturns, IsTyped as RichIsTyped, AreTyped as RichAreTyped, AreLabels, AreClauses as RichAreClauses}
-use Rattle.mdr_lower.proofs.Carried.{has_scalar, int_is, int_scalar, not_literal, scalar_is, type_at_is, type_is}
-use Rattle.mdr_lower.proofs.Stepped.{stepped_has, one_in_range}
-use Rattle.mdr_lower.specs.Lowering.{Branch, again, arm, armed, as_call, bumped, called, choice, clause_layer, clause_lowered, conjoined, counted_while, disjoined, do_lowered, done, element, flagged, is_label, is_labelled, or_label, switch_lowered, tried, inside, keeps, kept, low, low_args, low_callee, low_place, mapped, new_slot, outside, part, put, slot_value, stepped, stmt, truth, two, with_slot, begun, expr_lowered, call_lowered, perhaps_lowered, assigned, call_made, run, within, blocked, tested, turn, always, repeated, while_lowered, counted, for_lowered, step_layer, stmt_layer, step_lowered, stmt_lowered, lowered}
+use Rattle.mdr_rich.specs.Code.{Called, Lvalue, Term, Terms, Clauses, Code as RichCode, term_list, Goal as RichGoal}
+use Rattle.mdr_rich.specs.Typing.{Designates as RichDesignates, HandlerAmong, Has as RichHas, HasAddress as RichHasAddress, HasEach, IsScalar, PointerHas, gives_of, type_in, IsShape, IsStepped, NamesHandler as RichNamesHandler, CallGives as RichCallGives, GoesTo as RichGoesTo, Returns as RichReturns, AreLabels, IsTyped as RichIsTyped, AreTyped as RichAreTyped, AreClauses}
+use Rattle.mdr_lower.proofs.Carried.{has_scalar, int_is, integer_is, int_scalar, not_literal, scalar_is, type_at_is, type_is}
+use Rattle.mdr_lower.proofs.Stepped.{stepped_has, one_in_range, zero_in_range}
+use Rattle.mdr_lower.specs.Lowering.{Branch, again, arm, armed, as_call, bumped, called, choice, conjoined, disjoined, done, element, inside, keeps, kept, low, low_args, low_callee, low_place, mapped, new_slot, outside, part, put, slot_value, stepped, stmt, truth, two, with_slot, begun, expr_lowered, call_lowered, perhaps_lowered, assigned, call_made, run, within, blocked, tested, turn, always, repeated, while_lowered, counted, counted_while, for_lowered, flagged, do_lowered, is_label, or_label, is_labelled, tried, switch_lowered, step_layer, clause_layer, stmt_layer, step_lowered, clause_lowered, stmt_lowered, lowered}
 use Rattle.mdr_lower.specs.declared.work.Work.{Work}
 
 -- a value of a type may be assigned to an object of it
@@ -306,6 +306,32 @@ module _ (program : Program) (slots all : List Slot) (keep : (i : ℕ) (s : Slot
 
   truth_has : (e : Expr) → Cond e → V (int S32) (truth e)
   truth_has e c = negated (expr.Not e) (number_condition S32 (expr.Not e) (negated e c))
+
+  number_has : (k : Kind) (x : ℤ) → IsTrue (is_in_range k x) → V (int k) (expr.Lit (value.Int k x))
+  number_has k x r = subst (λ y. Has program all y (int k)) (sym (lit_is (value.Int k x))) (refl, r)
+
+  or_has : (c d : Expr) → Cond c → Cond d → V (int S32) (expr.Or c d)
+  or_has c d h k = subst (λ x. Has program all x (int S32)) (sym (or_is c d)) (record { left = h; right = k; is = refl })
+
+  -- ---- a slot of a kind, and labels
+
+  module _ (k : Kind) (i : ℕ) (at : Stands (int k) i) where
+    label_has : (v : Value) → Literal program v (int k) → Cond (is_label i v)
+    label_has v h = number_condition S32 (is_label i v) (subst (λ x. Has program all x (int S32)) (sym (rel_is Eq (slot_value i) (expr.Lit v))) (record {
+      type = int k;
+      left = slot_has (int k) i (int_is program k) at;
+      right = subst (λ x. Has program all x (int k)) (sym (lit_is v)) h;
+      compares = inl (k, refl);
+      is = refl;
+    }))
+
+    or_labels_have : (e : Expr) (vs : List Value) → AreLabels program k vs → Cond e → Cond (or_label i e vs)
+    or_labels_have e [] h c = c
+    or_labels_have e (v ∷ vs) h c = or_labels_have (expr.Or e (is_label i v)) vs h.1 (number_condition S32 (expr.Or e (is_label i v)) (or_has e (is_label i v) c (label_has v h.0)))
+
+    labels_have : (vs : List Value) → AreLabels program k vs → Cond (is_labelled i vs)
+    labels_have [] h = number_condition S32 (expr.Lit (value.Int S32 (pos 0))) (number_has S32 (pos 0) zero_in_range)
+    labels_have (v ∷ vs) h = or_labels_have (is_label i v) vs h.1 (label_has v h.0)
 
   -- ---- expressions and lvalues of the statement of this number
 
@@ -675,128 +701,41 @@ module _ (program : Program) (slots all : List Slot) (keep : (i : ℕ) (s : Slot
   choose_goes true g h = g
   choose_goes false g h = h
 
-  typed_front : (b : Bool) (ds : List RichCode) (c : RichCode) → RichAreTyped program slots result b (rich_before ds c) → RichAreTyped program slots result b (rich_code_list ds) × RichIsTyped program slots result b c
-  typed_front b [] c h = (tt, h.0)
-  typed_front b (d ∷ ds) c h = let r = typed_front b ds c h.1 in ((h.0, r.0), r.1)
+  -- a `for` with a test, over any lists of statements
+  module _ (n : ℕ) (least : 1 ≤ n) (a : Work) (e : Term) (next body : List (Work → Work))
+      (test : (v : Work) → (IsCounted v → IsCounted a) → (Fits v → Fits a) → Gives true Cond v (low n e v))
+      (step : (v : Work) → (IsCounted v → IsCounted a) → (Fits v → Fits a) → Goes false (inside v) (within v next))
+      (turned : (v : Work) → Goes true (inside v) (within v body)) where
+    test_in : (d : Work) → Goes false (inside a) d → Goes true (inside d) (turn n (low n e (inside d)) body)
+    test_in d g =
+        let v : Work = tested n (low n e (inside d)) in
+        block_goes 0 v (within v body) (tested_goes n least (test (inside d) (λ c. g.before c) (λ f. g.back f))) (turned v)
 
-  -- ---- loops, over what stands in them
-
-  -- a test in front of a body
-  turn_by : (n : ℕ) → 1 ≤ n → {w : Work} {x : Work × Expr} (body : List (Work → Work)) → ((u : Work) → Goes true u (run u body)) → Gives true Cond w x → Goes true w (turn n x body)
-  turn_by n least {w} {x} body k g = block_goes 0 (tested n x) (within (tested n x) body) (tested_goes n least g) (k (inside (tested n x)))
-
-  -- where something is known of each place behind the head of the loop
-  module _ (P : Work → Type 0) (enters : (v : Work) → P v → P (inside v)) (stays : (c : Bool) (u v : Work) → Goes c u v → P u → P v) where
-    counted_given : (n : ℕ) → 1 ≤ n → (b : Bool) (w a : Work) (e : Term) (next body : List (Work → Work)) → Goes b (inside w) a → P (inside a) → ((v : Work) → P v → Gives true Cond v (low n e v)) → ((v : Work) → P v → Goes false v (run v next)) → ((v : Work) → Goes true v (run v body))
-        → Goes b w (counted_while n w a e next body)
-    counted_given n least b w a e next body init here test nexts bodies =
-        let step : Work = within a next in
-        let stepped_on : Goes false (inside a) step = nexts (inside a) here in
-        let t = test (inside a) here in
+    counted_while_goes : {b : Bool} (w : Work) → Goes b (inside w) a → Goes b w (counted_while n w a e next body)
+    counted_while_goes w g =
+        let d : Work = within a next in
+        let first : Goes false (inside a) d = step a (λ c. c) (λ f. f) in
+        let y : Gives true Cond (inside a) (low n e (inside a)) = test (inside a) (λ c. c) (λ f. f) in
         let x : Work × Option Expr = mapped Some (low n e (inside a)) in
         let later : Work = within x.0 next in
         choose_goes (is_active e)
-        (counted_goes n least a (inside a, None) step (turn n (low n e (inside step)) body) init (gives_now {b = true} Test (inside a) None no_test) stepped_on
-        (turn_by n least body bodies (test (inside step) (enters step (stays false (inside a) step stepped_on here)))))
-        (counted_goes n least a x later (within later body) init (gives_map {Q = Test} Some (λ d v. v) t) (nexts (inside x.0) (enters x.0 (stays true (inside a) x.0 t.goes here))) (bodies (inside later)))
+        (counted_goes n least a (inside a, None) d (turn n (low n e (inside d)) body) g (gives_now {b = true} Test (inside a) None no_test) first (test_in d first))
+        (counted_goes n least a x later (within later body) g (gives_map {Q = Test} Some (λ d v. v) y) (step x.0 (λ c. y.goes.before c) (λ f. y.goes.back f)) (turned later))
 
-  zero_in_range : IsTrue (is_in_range S32 (pos 0))
-  unfolding is_in_range
-  zero_in_range = refl
+  flag_goes : {b : Bool} (n : ℕ) → 1 ≤ n → (i : ℕ) (x : ℤ) → IsTrue (is_in_range S32 x) → (w : Work) → (IsCounted w → Fits w → Stands (int S32) i) → Goes b w (flagged n i x w)
+  flag_goes {b} n least i x r w at = put_goes n (step.Assign (lval.Slot i) (expr.Lit (value.Int S32 x))) (goes_same b w)
+      (λ c f. assign_made n least b (lval.Slot i) (expr.Lit (value.Int S32 x)) (int S32) (int_is program S32) (slot_place (int S32) i (at c f)) (number_has S32 x r))
 
-  constant_has : (v : Value) (t : Ty) → Literal program v t → V t (expr.Lit v)
-  constant_has v t h = subst (λ x. Has program all x t) (sym (lit_is v)) h
+  again_given : (n : ℕ) → 1 ≤ n → (i : ℕ) (e : RichExpr) → IsCondition (RichHas program slots (rich_term_of e)) → (v : Work) → (IsCounted v → Fits v → Stands (int S32) i) → Gives true Cond v (low n (again i (rich_term_of e)) v)
+  again_given n least i e h v at =
+      let x : Gives true Cond v (v, slot_value i) = record { goes = goes_same true v; value = λ c f. number_condition S32 (slot_value i) (slot_has (int S32) i (int_is program S32) (at c f)) } in
+      conditioned n least true (int S32) (int_scalar S32) (either n least true (is_active (rich_term_of e))
+      (disjunction n least true v (v, slot_value i) (low n (rich_term_of e)) x (λ u. condition_given n least true e h u))
+      (gives_two expr.Or x (λ u. condition_given n least true e h u) (λ c d p q. or_has c d p q)))
 
-  -- ---- `do`
-
-  -- a slot for a number stands there
-  abbrev Flag : ℕ → Work → Type 0
-  Flag i v = IsCounted v → Fits v → Stands (int S32) i
-
-  flag_goes : (n : ℕ) → 1 ≤ n → (b : Bool) (i : ℕ) (m : ℤ) → IsTrue (is_in_range S32 m) → (v : Work) → Flag i v → Goes b v (flagged n i m v)
-  flag_goes n least b i m h v at =
-      let one : Expr = expr.Lit (value.Int S32 m) in
-      put_goes n (step.Assign (lval.Slot i) one) (goes_same b v)
-      (λ c f. assign_made n least b (lval.Slot i) one (int S32) (int_is program S32) (slot_place (int S32) i (at c f)) (constant_has (value.Int S32 m) (int S32) (refl, h)))
-
-  again_given : (n : ℕ) (least : 1 ≤ n) (b : Bool) (i : ℕ) (e : Term) → IsCondition (RichHas program slots e) → (v : Work) → Flag i v → Gives b Cond v (low n (again i e) v)
-  again_given n least b i e h v at =
-      let flag : Gives b Cond v (v, slot_value i) = record { goes = goes_same b v; value = λ c f. number_condition S32 (slot_value i) (slot_has (int S32) i (int_is program S32) (at c f)) } in
-      let right : (u : Work) → Gives b Cond u (low n e u) = λ u. conditioned n least b h.type h.scalar (low_given n least b e h.type h.operand u) in
-      conditioned n least b (int S32) (int_scalar S32)
-      (either n least b (is_active e) (disjunction n least b v (v, slot_value i) (low n e) flag right)
-      (gives_two expr.Or flag right (λ c d k u. subst (λ z. Has program all z (int S32)) (sym (or_is c d)) (record { left = k; right = u; is = refl }))))
-
-  do_given : (n : ℕ) → 1 ≤ n → (b : Bool) (e : RichExpr) → IsCondition (RichHas program slots (rich_term_of e)) → (body : List (Work → Work)) → ((v : Work) → Goes true v (run v body)) → (w : Work) → Goes b w (do_lowered n e body w)
-  do_given n least b e h body bodies w =
-      let i : ℕ = w.next in
-      let front : Work = with_slot (int S32) w in
-      let more : Goes b w front = slot_goes (int S32) (int_is program S32) w in
-      let here : Flag i (inside front) = λ c f. slot_stands (int S32) w (more.before c) f in
-      let first = flag_goes n least b i (pos 1) (one_in_range S32) (inside front) here in
-      goes_then more
-      (counted_given (Flag i) (λ v q. q) (λ k u v g q c f. q (g.before c) (g.back f)) n least b front (flagged n i (pos 1) (inside front)) (again i (rich_term_of e)) (flagged n i (pos 0) ∷ []) body
-      first (λ c f. here (first.before c) (first.back f)) (λ v at. again_given n least true i (rich_term_of e) h v at) (λ v at. flag_goes n least false i (pos 0) zero_in_range v at) bodies)
-
-  -- ---- `switch`
-
-  not_function : (k : Kind) (ts : List Ty) → int k ≡ type.Fun ts → ⊥
-  not_function k ts e = by (sym (type.outs-Int k) ∙ ap out-Ty e ∙ type.outs-Fun ts) where
-    by : Ty-F.Int k ≡ Ty-F.Fun ts → ⊥
-    by q = absurd cc
-
-  not_pointer : (k : Kind) → IsTrue (is_pointer (int k)) → ⊥
-  not_pointer k h = by (subst (λ l. IsTrue (is_pointer_by l)) (type.outs-Int k) h) where
-    by : IsTrue false → ⊥
-    by q = absurd cc
-
-  -- a number has the type that it carries, a literal too
-  carried_by : (v : Value) (k : Kind) → Literal program v (int k) → type_of (Term.Lit v) ≡ int k
-  carried_by (value.Int l m) k h = sym h.0
-  carried_by value.Null k h = absurd (not_pointer k h)
-  carried_by (value.Ptr q) k h = absurd h
-  carried_by value.Dead k h = absurd h
-  carried_by (value.Fn f) k h = absurd (not_function k (h.0.result ∷ map (λ (p : Param). p.ty) h.0.params) h.2)
-  carried_by (value.Lock q) k h = absurd h
-  carried_by value.NoValue k h = absurd h
-
-  carried : (e : Term) (k : Kind) → RichHas program slots e (int k) → type_of e ≡ int k
-  carried (Term.Lit v) k h = carried_by v k h
-  carried (Term.Load p) k h = type_is program slots (Term.Load p) (int k) tt h
-  carried (Term.Addr p) k h = type_is program slots (Term.Addr p) (int k) tt h
-  carried (Term.Decay p) k h = type_is program slots (Term.Decay p) (int k) tt h
-  carried (Term.Neg l e) k h = type_is program slots (Term.Neg l e) (int k) tt h
-  carried (Term.Flip l e) k h = type_is program slots (Term.Flip l e) (int k) tt h
-  carried (Term.Not e) k h = type_is program slots (Term.Not e) (int k) tt h
-  carried (Term.Bin op l x y) k h = type_is program slots (Term.Bin op l x y) (int k) tt h
-  carried (Term.Rel op x y) k h = type_is program slots (Term.Rel op x y) (int k) tt h
-  carried (Term.And x y) k h = type_is program slots (Term.And x y) (int k) tt h
-  carried (Term.Or x y) k h = type_is program slots (Term.Or x y) (int k) tt h
-  carried (Term.Conv l e) k h = type_is program slots (Term.Conv l e) (int k) tt h
-  carried (Term.ToVoid e) k h = type_is program slots (Term.ToVoid e) (int k) tt h
-  carried (Term.FromVoid u e) k h = type_is program slots (Term.FromVoid u e) (int k) tt h
-  carried (Term.Move back p i) k h = type_is program slots (Term.Move back p i) (int k) tt h
-  carried (Term.Diff p q) k h = type_is program slots (Term.Diff p q) (int k) tt h
-  carried (Term.Cond u c x y) k h = type_is program slots (Term.Cond u c x y) (int k) tt h
-  carried (Term.Call u f args shape format) k h = type_is program slots (Term.Call u f args shape format) (int k) tt h
-  carried (Term.Bump u up first p) k h = type_is program slots (Term.Bump u up first p) (int k) tt h
-
-  -- the labels of a clause
-  module _ (k : Kind) (i : ℕ) (at : Stands (int k) i) where
-    label_has : (v : Value) → Literal program v (int k) → V (int S32) (is_label i v)
-    label_has v h = subst (λ z. Has program all z (int S32)) (sym (rel_is Eq (slot_value i) (expr.Lit v)))
-        (record { type = int k; left = slot_has (int k) i (int_is program k) at; right = constant_has v (int k) h; compares = inl (k, refl); is = refl })
-
-    or_label_has : (e : Expr) (vs : List Value) → AreLabels program k vs → V (int S32) e → V (int S32) (or_label i e vs)
-    or_label_has e [] h g = g
-    or_label_has e (v ∷ vs) h g = or_label_has (expr.Or e (is_label i v)) vs h.1
-        (subst (λ z. Has program all z (int S32)) (sym (or_is e (is_label i v))) (record { left = number_condition S32 e g; right = number_condition S32 (is_label i v) (label_has v h.0); is = refl }))
-
-    labelled_has : (vs : List Value) → AreLabels program k vs → V (int S32) (is_labelled i vs)
-    labelled_has [] h = constant_has (value.Int S32 (pos 0)) (int S32) (refl, zero_in_range)
-    labelled_has (v ∷ vs) h = or_label_has (is_label i v) vs h.1 (label_has v h.0)
-
-  -- ---- all statements
+  typed_front : (b : Bool) (ds : List RichCode) (c : RichCode) → RichAreTyped program slots result b (rich_before ds c) → RichAreTyped program slots result b (rich_code_list ds) × RichIsTyped program slots result b c
+  typed_front b [] c h = (tt, h.0)
+  typed_front b (d ∷ ds) c h = let r = typed_front b ds c h.1 in ((h.0, r.0), r.1)
 
   abbrev StepGoes : RichStep → Type 0
   StepGoes s = (n : ℕ) (b : Bool) → RichIsTyped program slots result b (rich_numbered s n) → (w : Work) → Goes b w (step_lowered s n w)
@@ -804,32 +743,34 @@ module _ (program : Program) (slots all : List Slot) (keep : (i : ℕ) (s : Slot
   abbrev StmtGoes : RichStmt → Type 0
   StmtGoes s = (b : Bool) → RichIsTyped program slots result b (rich_code_of s) → (w : Work) → Goes b w (stmt_lowered s w)
 
-  -- what stands behind labels, and what it is lowered to
-  record BranchGoes (c : Labelled) (d : Branch) : Type 0 where
-    same : d.0 ≡ c.0
-    goes : (b : Bool) → RichAreTyped program slots result b c.1 → (w : Work) → Goes b w (run w d.1)
+  -- what follows labels, and what it is lowered to
+  record BranchGoes (l : Labelled) (c : Branch) : Type 0 where
+    same : l.0 ≡ c.0
+    turn : (b : Bool) → RichAreTyped program slots result b l.1 → (w : Work) → Goes b w (run w c.1)
 
   abbrev ClauseGoes : RichClause → Type 0
   ClauseGoes c = BranchGoes (rich_clause_of c) (clause_lowered c)
 
-  abbrev StepLayer : Step-F RichStep RichClause RichStmt → Type 0
-  StepLayer l = (n : ℕ) (b : Bool) → RichIsTyped program slots result b (rich_step_layer (map-Step RichStep RichClause RichStmt (ℕ → RichCode) Labelled RichCode rich_numbered rich_clause_of rich_code_of l) n) → (w : Work)
-      → Goes b w (step_layer (map-Step RichStep RichClause RichStmt (ℕ → Work → Work) Branch (Work → Work) step_lowered clause_lowered stmt_lowered l) n w)
+  abbrev BodyLayer : List Value → List RichStmt → Type 0
+  BodyLayer labels body = BranchGoes (labels, rich_code_list (map rich_code_of body)) (labels, map stmt_lowered body)
 
-  abbrev ClauseLayer : List Value → List RichStmt → Type 0
-  ClauseLayer labels body = BranchGoes (labels, rich_code_list (map rich_code_of body)) (labels, map stmt_lowered body)
+  abbrev StepLayer : Step-F RichStep RichClause RichStmt → Type 0
+  StepLayer l = (n : ℕ) (b : Bool) → RichIsTyped program slots result b (rich_step_layer (map-Step RichStep RichClause RichStmt (ℕ → RichCode) Labelled RichCode rich_numbered rich_clause_of rich_code_of l) n)
+      → (w : Work) → Goes b w (step_layer (map-Step RichStep RichClause RichStmt (ℕ → Work → Work) Branch (Work → Work) step_lowered clause_lowered stmt_lowered l) n w)
 
   module _ {Y : Type 0} (at : Y → RichStmt) (all_go : (y : Y) → StmtGoes (at y)) where
     list_goes : (ys : List Y) (b : Bool) → RichAreTyped program slots result b (rich_code_list (map rich_code_of (map at ys))) → (w : Work) → Goes b w (run w (map stmt_lowered (map at ys)))
     list_goes [] b h w = goes_same b w
     list_goes (y ∷ ys) b h w = goes_then (all_go y b h.0 w) (list_goes ys b h.1 (stmt_lowered (at y) w))
 
-    clause_goes : (labels : List Value) (ys : List Y) → ClauseLayer labels (map at ys)
-    clause_goes labels ys = record { same = refl; goes = λ b h w. list_goes ys b h w }
+    turn_goes : (n : ℕ) → 1 ≤ n → (e : RichExpr) → IsCondition (RichHas program slots (rich_term_of e)) → (ys : List Y) → RichAreTyped program slots result true (rich_code_list (map rich_code_of (map at ys))) → (w : Work) → Goes true (inside w) (turn n (expr_lowered n e (inside w)) (map stmt_lowered (map at ys)))
+    turn_goes n least e c ys h w =
+        let v : Work = tested n (expr_lowered n e (inside w)) in
+        block_goes 0 v (within v (map stmt_lowered (map at ys))) (tested_goes n least (condition_given n least true e c (inside w))) (list_goes ys true h (inside v))
 
     while_given : (n : ℕ) → 1 ≤ n → (b : Bool) (e : RichExpr) → IsCondition (RichHas program slots (rich_term_of e)) → (ys : List Y) → RichAreTyped program slots result true (rich_code_list (map rich_code_of (map at ys))) → (w : Work) → Goes b w (while_lowered n e (map stmt_lowered (map at ys)) w)
     while_given n least b e c ys h w = choose_goes (is_active (rich_term_of e))
-        (while_goes n least (turn n (expr_lowered n e (inside w)) (map stmt_lowered (map at ys))) (gives_now Cond w always always_true) (turn_by n least (map stmt_lowered (map at ys)) (λ u. list_goes ys true h u) (condition_given n least true e c (inside w))))
+        (while_goes n least (turn n (expr_lowered n e (inside w)) (map stmt_lowered (map at ys))) (gives_now Cond w always always_true) (turn_goes n least e c ys h w))
         (while_goes n least (within (expr_lowered n e w).0 (map stmt_lowered (map at ys))) (condition_given n least b e c w) (list_goes ys true h (inside (expr_lowered n e w).0)))
 
     for_given : (n : ℕ) → 1 ≤ n → (b : Bool) (a : Work) (o : Option RichExpr) → IsCondition (RichHas program slots (rich_test_of o)) → (xs ys : List Y) → RichAreTyped program slots result false (rich_code_list (map rich_code_of (map at xs))) → RichAreTyped program slots result true (rich_code_list (map rich_code_of (map at ys))) → (w : Work) → Goes b (inside w) a → Goes b w (for_lowered n w a o (map stmt_lowered (map at xs)) (map stmt_lowered (map at ys)))
@@ -837,31 +778,53 @@ module _ (program : Program) (slots all : List Slot) (keep : (i : ℕ) (s : Slot
         let next : Work = within a (map stmt_lowered (map at xs)) in
         counted_goes n least a (inside a, None) next (within next (map stmt_lowered (map at ys))) g (gives_now {b = true} Test (inside a) None no_test) (list_goes xs false h (inside a)) (list_goes ys true k (inside next))
     for_given n least b a (Some e) c xs ys h k w g =
-        counted_given (λ v. Unit {0}) (λ v q. q) (λ k u v g q. q) n least b w a (rich_term_of e) (map stmt_lowered (map at xs)) (map stmt_lowered (map at ys)) g tt (λ v q. condition_given n least true e c v) (λ v q. list_goes xs false h v) (λ v. list_goes ys true k v)
+        counted_while_goes n least a (rich_term_of e) (map stmt_lowered (map at xs)) (map stmt_lowered (map at ys))
+        (λ v x y. condition_given n least true e c v) (λ v x y. list_goes xs false h (inside v)) (λ v. list_goes ys true k (inside v)) w g
+
+    body_branch : (labels : List Value) (ys : List Y) → BodyLayer labels (map at ys)
+    body_branch labels ys = record { same = refl; turn = λ b h w. list_goes ys b h w }
+
+    -- ---- `do`
+
+    do_given : (n : ℕ) → 1 ≤ n → (b : Bool) (e : RichExpr) → IsCondition (RichHas program slots (rich_term_of e)) → (ys : List Y) → RichAreTyped program slots result true (rich_code_list (map rich_code_of (map at ys))) → (w : Work) → Goes b w (do_lowered n e (map stmt_lowered (map at ys)) w)
+    do_given n least b e c ys h w =
+        let i : ℕ = w.next in
+        let front : Work = with_slot (int S32) w in
+        let taken : Goes b w front = slot_goes (int S32) (int_is program S32) w in
+        let stands : IsCounted front → Fits front → Stands (int S32) i = λ k f. slot_stands (int S32) w (taken.before k) f in
+        goes_then taken
+        (counted_while_goes n least (flagged n i (pos 1) (inside front)) (again i (rich_term_of e)) (flagged n i (pos 0) ∷ []) (map stmt_lowered (map at ys))
+        (λ v k f. again_given n least i e c v (λ x y. stands (k x) (f y)))
+        (λ v k f. flag_goes n least i (pos 0) zero_in_range (inside v) (λ x y. stands (k x) (f y)))
+        (λ v. list_goes ys true h (inside v)) front (flag_goes n least i (pos 1) (one_in_range S32) (inside front) stands))
+
+    -- ---- `switch`
 
     module _ {X C : Type 0} (of : X → RichStep) (clause : C → RichClause) (all_clauses : (c : C) → ClauseGoes (clause c)) where
-      -- each clause in the `else` of the one before it
-      tried_goes : (n : ℕ) → 1 ≤ n → (b : Bool) (k : Kind) (i : ℕ) (cs : List C) (ys : List Y) → RichAreClauses program slots result b k (clause_list (map rich_clause_of (map clause cs)) (rich_code_list (map rich_code_of (map at ys)))) → (w : Work) → (IsCounted w → Fits w → Stands (int k) i)
-          → Goes b w (tried n i (map clause_lowered (map clause cs)) (map stmt_lowered (map at ys)) w)
-      tried_goes n least b k i [] ys h w here = block_goes 0 w (within w (map stmt_lowered (map at ys))) (goes_same b w) (list_goes ys b h (inside w))
-      tried_goes n least b k i (c ∷ cs) ys h w here =
-          let d : Branch = clause_lowered (clause c) in
-          let one : Work = within w d.1 in
-          let rest : List (Work → Work) = tried n i (map clause_lowered (map clause cs)) (map stmt_lowered (map at ys)) ∷ [] in
-          let labels : AreLabels program k d.0 = subst (AreLabels program k) (sym (all_clauses c).same) h.labelled in
-          let first : Goes b (inside w) one = (all_clauses c).goes b h.turn (inside w) in
-          let test : Gives b Cond w (w, is_labelled i d.0) = record { goes = goes_same b w; value = λ p f. number_condition S32 (is_labelled i d.0) (labelled_has k i (here p f) d.0 labels) } in
-          branch_goes n least one (within one rest) test first (tried_goes n least b k i cs ys h.later (inside one) (λ p f. here (first.before p) (first.back f)))
+      abbrev Branches : List C → List Branch
+      Branches cs = map clause_lowered (map clause cs)
 
-      switch_goes : (n : ℕ) → 1 ≤ n → (b : Bool) (k : Kind) (e : RichExpr) (cs : List C) (ys : List Y) → RichHas program slots (rich_term_of e) (int k) → RichAreClauses program slots result b k (clause_list (map rich_clause_of (map clause cs)) (rich_code_list (map rich_code_of (map at ys)))) → (w : Work)
-          → Goes b w (switch_lowered n e (map clause_lowered (map clause cs)) (map stmt_lowered (map at ys)) w)
-      switch_goes n least b k e cs ys v h w =
+      abbrev Parts : List C → List Y → Clauses
+      Parts cs ys = clause_list (map rich_clause_of (map clause cs)) (rich_code_list (map rich_code_of (map at ys)))
+
+      tried_goes : (n : ℕ) → 1 ≤ n → (b : Bool) (k : Kind) (i : ℕ) (cs : List C) (ys : List Y) → AreClauses program slots result b k (Parts cs ys) → (w : Work) → (IsCounted w → Fits w → Stands (int k) i) → Goes b w (tried n i (Branches cs) (map stmt_lowered (map at ys)) w)
+      tried_goes n least b k i [] ys h w stands = block_goes 0 w (within w (map stmt_lowered (map at ys))) (goes_same b w) (list_goes ys b h (inside w))
+      tried_goes n least b k i (c ∷ cs) ys h w stands =
+          let g : ClauseGoes (clause c) = all_clauses c in
+          let l : Branch = clause_lowered (clause c) in
+          let one : Work = within w l.1 in
+          let first : Goes b (inside w) one = g.turn b h.turn (inside w) in
+          let test : Gives b Cond w (w, is_labelled i l.0) = record { goes = goes_same b w; value = λ x f. labels_have k i (stands x f) l.0 (subst (AreLabels program k) g.same h.labelled) } in
+          branch_goes n least one (tried n i (Branches cs) (map stmt_lowered (map at ys)) (inside one)) test first
+          (tried_goes n least b k i cs ys h.later (inside one) (λ x f. stands (first.before x) (first.back f)))
+
+      switch_given : (n : ℕ) → 1 ≤ n → (b : Bool) (k : Kind) (e : RichExpr) → RichHas program slots (rich_term_of e) (int k) → (cs : List C) (ys : List Y) → AreClauses program slots result b k (Parts cs ys) → (w : Work) → Goes b w (switch_lowered n e (Branches cs) (map stmt_lowered (map at ys)) w)
+      switch_given n least b k e v cs ys h w =
           let x : Work × Expr = expr_lowered n e w in
-          let g : Gives b (V (int k)) w x = low_given n least b (rich_term_of e) (int k) v w in
-          let more : Goes b x.0 (with_slot (int k) x.0) = slot_goes (int k) (int_is program k) x.0 in
-          subst (λ t. Goes b w (tried n x.0.next (map clause_lowered (map clause cs)) (map stmt_lowered (map at ys)) (kept n t x).0)) (sym (carried (rich_term_of e) k v))
-          (goes_then (kept_gives n least (int k) (int_is program k) g).goes
-          (tried_goes n least b k x.0.next cs ys h (kept n (int k) x).0 (λ p f. slot_stands (int k) x.0 (more.before p) f)))
+          let value : Gives b (V (int k)) w (kept n (int k) x) = kept_gives n least (int k) (int_is program k) (low_given n least b (rich_term_of e) (int k) v w) in
+          let taken : Goes b x.0 (with_slot (int k) x.0) = slot_goes (int k) (int_is program k) x.0 in
+          subst (λ t. Goes b w (tried n x.0.next (Branches cs) (map stmt_lowered (map at ys)) (kept n t x).0)) (sym (integer_is program slots (rich_term_of e) k v))
+          (goes_then value.goes (tried_goes n least b k x.0.next cs ys h (kept n (int k) x).0 (λ c f. slot_stands (int k) x.0 (taken.before c) f)))
 
       step_goes : (l : Step-F X C Y) → StepLayer (map-Step X C Y RichStep RichClause RichStmt of clause at l)
       step_goes (Step-F.Declare i) n b h w = put_goes n (step.Declare i) (goes_same b w) (λ c f. subst (IsMade b) (sym (declare_is n i))
@@ -883,8 +846,8 @@ module _ (program : Program) (slots all : List Slot) (keep : (i : ℕ) (s : Slot
       step_goes (Step-F.For init o xs ys) n b h w =
           let r = typed_front b (map rich_code_of (map at init)) (RichCode.Loop n (rich_test_of o) (rich_code_list (map rich_code_of (map at xs))) (rich_code_list (map rich_code_of (map at ys)))) h in
           for_given n r.1.numbered b (within w (map stmt_lowered (map at init))) o r.1.condition xs ys r.1.stepped r.1.turn w (list_goes init b r.0 (inside w))
-      step_goes (Step-F.Do ys e) n b h w = do_given n h.numbered b e h.condition (map stmt_lowered (map at ys)) (λ v. list_goes ys true h.turn v) w
-      step_goes (Step-F.Switch e cs ys) n b h w = switch_goes n h.numbered b h.kind e cs ys h.value h.parts w
+      step_goes (Step-F.Do ys e) n b h w = do_given n h.numbered b e h.condition ys h.turn w
+      step_goes (Step-F.Switch e cs ys) n b h w = switch_given n h.numbered b h.kind e h.value cs ys h.parts w
       step_goes (Step-F.Return o) n b h w = done_goes n h.numbered (return_given n h.numbered b o h.right w)
       step_goes (Step-F.ReturnCall form) n b h w = done_goes n h.numbered (back_given n h.numbered b form h.right w)
       step_goes Step-F.Break n b h w = put_goes n step.Break (goes_same b w) (λ c f. subst (IsMade b) (sym (break_is n)) (λ t q. absurd q, λ g. h))
@@ -896,9 +859,10 @@ module _ (program : Program) (slots all : List Slot) (keep : (i : ℕ) (s : Slot
   stmt_goes = ind-Stmt StepGoes ClauseGoes StmtGoes
       (λ x y is n b h w. subst (λ (f : ℕ → Work → Work). Goes b w (f n w)) (sym (fold-roll-Step (ℕ → Work → Work) Branch (Work → Work) step_layer clause_layer stmt_layer x))
       (subst StepLayer is (step_goes (λ e. e.0) (λ e. e.1) (λ e. e.0) (λ e. e.0) (λ e. e.1) y) n b (subst (λ (f : ℕ → RichCode). RichIsTyped program slots result b (f n)) (fold-roll-Step (ℕ → RichCode) Labelled RichCode rich_step_layer rich_clause_layer rich_stmt_layer x) h) w))
-      (λ x y is. subst (λ (c : Labelled). BranchGoes c (clause_lowered (roll-Clause x))) (sym (fold-roll-Clause (ℕ → RichCode) Labelled RichCode rich_step_layer rich_clause_layer rich_stmt_layer x))
-      (subst (λ (d : Branch). BranchGoes (x.labels, rich_code_list (map rich_code_of x.body)) d) (sym (fold-roll-Clause (ℕ → Work → Work) Branch (Work → Work) step_layer clause_layer stmt_layer x))
-      (subst (ClauseLayer x.labels) (ap (λ z. z.body) is) (clause_goes (λ e. e.0) (λ e. e.1) x.labels y.body))))
+      (λ x y is.
+      subst (λ l. BranchGoes l (clause_lowered (roll-Clause x))) (sym (fold-roll-Clause (ℕ → RichCode) Labelled RichCode rich_step_layer rich_clause_layer rich_stmt_layer x))
+      (subst (BranchGoes (x.labels, rich_codes_of x.body)) (sym (fold-roll-Clause (ℕ → Work → Work) Branch (Work → Work) step_layer clause_layer stmt_layer x))
+      (subst (BodyLayer x.labels) (ap (λ z. z.body) is) (body_branch (λ e. e.0) (λ e. e.1) x.labels y.body))))
       (λ x y is b h w.
       let s : RichStmt = record { number = x.number; step = x.step } in
       subst (λ (f : Work → Work). Goes b w (f w)) (sym (fold_out-Stmt (ℕ → Work → Work) Branch (Work → Work) step_layer clause_layer stmt_layer s))

@@ -83,6 +83,7 @@ fn way(alloc: Global, number: u32, arm: Arm, other: Stmt) -> Result<Stmt, AllocE
     })
 }
 
+#[tactic(auto, using(crate::proofs::Chained::chain_last, crate::proofs::Chained::one_less))]
 fn chain(
     alloc: Global,
     number: u32,

@@ -1,5 +1,5 @@
 -- The functions of a file have the lowered bodies of those that were written, each in its place.
-use Rattle.std.proofs.Common.{◌≡◌, ℕ, Bool, true, List, [], ◌∷◌, ◌++◌, length, map, Option, Some, None, refl, sym, ap, ◌∙◌, subst}
+use Rattle.std.proofs.Common.{◌≡◌, ℕ, ◌+◌, Bool, true, List, [], ◌∷◌, ◌++◌, length, map, Option, Some, None, refl, sym, ap, ◌∙◌, subst}
 use Rattle.mdr_core.specs.declared.program.Func.{Func}
 use Rattle.mdr_core.specs.declared.program.Program.{Program}
 use Rattle.mdr_core.specs.Folds.{codes_of as plain_codes_of}
@@ -66,15 +66,8 @@ module _ (program : Program) (rules : Rules) (scope : Scope) (h : Head) (nodes :
   pub function_matches : (name : List ℕ) (is_critical : Bool) → Matches program (whole name is_critical g b) (Some (written g b))
   function_matches name is_critical = (
     body_by_work (length g.params + length b.locals) (slots_of (whole name is_critical g b)),
-    (
-      refl,
-      record {
-        source = b.statements;
-        code = refl;
-        typed = statements_typed program rules scope h nodes g b known sound made;
-        is = lowered_is;
-      },
-    ),
+    refl,
+    record { source = b.statements; code = refl; typed = statements_typed program rules scope h nodes g b known sound made; is = lowered_is },
   )
 
 -- ---- a whole file
