@@ -215,12 +215,13 @@ module _ (b : Both) where
       → ((r1 : Ready Wire) (t1 u1 : List Wire) → Sees N b.all t1 u1 → Near N b.all i u u1 → IsReady N b.all Wire behind.next u1 r1 (V (slot_value i)) → k r1 t1 ≡ E Ends (with u1 []))
       → q r t k ≡ S code (with u []) E
 
-  -- where the test stands ready at certain slots: what is done before it, and then one of the two ways
+  -- what is done before, at certain slots, is what the statements do
   abbrev pub Begins : (A : Type 0) → Prep A → (from behind : Work) → Ready A → List Stmt → (t u born : List Wire) → Type 0
   Begins A p from behind e code t u born = (k : Ready A → List Wire → Tree) (K : Next)
       → ((r : Ready A) (t1 u1 : List Wire) → Sees N b.all t1 u1 → Near N b.all from.next u u1 → IsReady N b.all A behind.next u1 r e → k r t1 ≡ K Ends (with u1 born))
       → p t k ≡ S code (with u born) K
 
+  -- and then one of the two ways
   pub begins_armed : (n i : ℕ) (p : Prep Wire) (w : Work) (x : Work × Expr) (code : List Stmt) (one other : Ready Wire → Prep Wire) (a d : Work) (t u born : List Wire) → w.next ≤ i → IsCounted N b.all x.0 → Fits N b.all d
       → Begins Wire p w x.0 (V x.1) code t u born → Way i x.1 x.0 d one a.code → Way i x.1 x.0 d other d.code → Begins Wire (branching n p one other) w d (V (slot_value i)) (code ++ stmt n (step.If x.1 a.code d.code) ∷ []) t u born
   begins_armed n i p w x code one other a d t u born first c f front left right k K h =
