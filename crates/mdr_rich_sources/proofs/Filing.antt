@@ -1,6 +1,5 @@
 -- The functions of a file have the lowered bodies of those that were written, each in its place.
-use Rattle.std.proofs.Common.{◌≡◌, ℕ, ◌+◌, Bool, true, List, [], ◌∷◌, ◌++◌, length, map, Option, Some, None, refl, sym, ap, ◌∙◌, subst}
-use Rattle.mdr_core.specs.declared.program.Func.{Func}
+use Rattle.std.proofs.Common.{◌≡◌, ℕ, ◌+◌, Bool, true, List, [], ◌∷◌, ◌++◌, length, map, Some, refl, sym, ap, ◌∙◌, subst}
 use Rattle.mdr_core.specs.declared.program.Program.{Program}
 use Rattle.mdr_core.specs.Folds.{codes_of as plain_codes_of}
 use Rattle.mdr_core.specs.Typing.{Slot, slots_of, slot_of_local, slot_of_param}
@@ -23,14 +22,12 @@ use Rattle.mdr_lower.specs.Lowering.{lowered}
 use Rattle.mdr_meaning.specs.Sides as sides
 use Rattle.mdr_program.specs.declared.parts.Parts.{Parts}
 use Rattle.mdr_program.specs.Parts.{behind_piece, marked, no_parts, number_among, parts_behind, remote, whole}
-use Rattle.mdr_rich.specs.Folds.{codes_of}
-use Rattle.mdr_rich.specs.Typing.{AreTyped}
-use Rattle.mdr_rich_meaning.specs.Law.{IsLoweredBody, lowered_body}
+use Rattle.mdr_rich_meaning.specs.Law.{lowered_body}
 use Rattle.mdr_rich_sources.specs.Bodies.{Bodies, bodies_behind, bodies_of, with_piece, written}
 use Rattle.mdr_rich_sources.proofs.Matching.{AllMatch, Matches, match_declared, match_defined}
 use Rattle.mdr_sound_code.proofs.Rights.{same_right}
 use Rattle.mdr_sound_code.specs.Knowing.{Knows}
-use Rattle.mdr_sound_bodies.specs.Bodies.{IsComposed, made_work}
+use Rattle.mdr_sound_bodies.specs.Bodies.{IsComposed}
 use Rattle.mdr_sound_bodies.specs.Rules.{AreSoundRules}
 use Rattle.mdr_sound_bodies.specs.Within.{KnowsDeclarations}
 use Rattle.mdr_sound_bodies.specs.Written.{AreNamed, AreProper}

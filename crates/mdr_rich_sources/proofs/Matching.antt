@@ -1,5 +1,5 @@
 -- The functions of a program, and the bodies that were written for them, number by number.
-use Rattle.std.proofs.Common.{◌≡◌, ℕ, zero, suc, Bool, true, false, List, [], ◌∷◌, ◌++◌, length, map, Option, Some, None, slice_get, slice_set, refl, sym, ap, ◌∙◌, subst}
+use Rattle.std.proofs.Common.{◌≡◌, ℕ, zero, suc, Bool, true, false, List, [], ◌∷◌, ◌++◌, Option, Some, None, slice_get, slice_set, refl, sym, subst}
 use Rattle.std.proofs.lemmas.Option.{none-some, same_Some}
 use Rattle.mdr_core.specs.declared.program.Func.{Func}
 use Rattle.mdr_core.specs.declared.program.Program.{Program}
@@ -9,8 +9,8 @@ use Rattle.mdr_meaning.specs.Bodies.{body_by, body_from, body_of}
 use Rattle.mdr_meaning.specs.Sides.{Body}
 use Rattle.mdr_program.specs.Parts.{declared, defined}
 use Rattle.mdr_rich_meaning.specs.Expressions.{RichBody}
-use Rattle.mdr_rich_meaning.specs.Law.{IsLowered, IsLoweredBody}
-use Rattle.mdr_rich_sources.specs.Bodies.{Bodies, body_at, kernel_side, perhaps, user_side, whole_side, with_body, with_prototype}
+use Rattle.mdr_rich_meaning.specs.Law.{IsLoweredBody}
+use Rattle.mdr_rich_sources.specs.Bodies.{Bodies, body_at, perhaps, with_body, with_prototype}
 use Rattle.mdr_rich_sources.specs.Laws.{IsLoweredFrom}
 
 module _ (program : Program) where

@@ -1,6 +1,5 @@
 -- The watched run of a driver is that over what its sides' functions are started as.
-use Rattle.std.proofs.Common.{◌≡◌, ℕ, zero, suc, Bool, true, false, List, [], map, Option, Some, None, refl, ap, sym, ◌∙◌}
-use Rattle.mdr_core.specs.declared.place.At.{At}
+use Rattle.std.proofs.Common.{◌≡◌, ℕ, zero, suc, Bool, true, false, List, [], map, Option, Some, None, refl, ap, ◌∙◌}
 use Rattle.mdr_core.specs.declared.plan.Plan.{Plan}
 use Rattle.mdr_core.specs.declared.program.Program.{Program}
 use Rattle.mdr_core.specs.declared.stop.StopKind.TheVariants as stop
@@ -10,12 +9,10 @@ use Rattle.mdr_extents.specs.Reaching.{visible}
 use Rattle.mdr_meaning.specs.declared.wire.Wire.{Wire}
 use Rattle.mdr_meaning.specs.Bodies.{known_of, started}
 use Rattle.mdr_meaning.specs.Bodies as plain
-use Rattle.mdr_meaning.specs.Sides.{Side}
 use Rattle.mdr_meaning.specs.Tree.{Tree}
 use Rattle.mdr_meaning.specs.Values.{wire_of}
 use Rattle.mdr_model.specs.declared.command.Command.{Command}
 use Rattle.mdr_model.specs.declared.command.Command.TheVariants as command
-use Rattle.mdr_model.specs.declared.memory.Cell.{Cell}
 use Rattle.mdr_model.specs.Memory.{normal}
 use Rattle.mdr_plain.specs.Atomic.{is_atomic}
 use Rattle.mdr_plain.specs.Gate.{due}
@@ -23,10 +20,9 @@ use Rattle.mdr_plain.specs.Running as running
 use Rattle.mdr_plain.specs.Running.{Before, Crossing, KernelCode, Setting, nothing, run}
 use Rattle.mdr_plain.specs.Scripts as scripts
 use Rattle.mdr_plain.specs.Scripts.{Beginning, Did, Enters, Finish, Opens, begun, commands, first_world, idled, returned}
-use Rattle.mdr_plain.specs.World.{World, Ran, Stopped, Work, after}
-use Rattle.mdr_rich_meaning.specs.Bodies.{rich_started}
-use Rattle.mdr_rich_sources.specs.Bodies.{Bodies, kernel_side, user_side}
-use Rattle.mdr_rich_sources.specs.Runs.{Meant, MeantCode, begins, called_by, calls, calls_back, does_with, downcall, entered, handles, in_place, in_user, interrupts, kernel_of, kernel_with, meant_by, returns_to, upcall, watched_by, written_run}
+use Rattle.mdr_plain.specs.World.{World, Ran, Stopped, after}
+use Rattle.mdr_rich_sources.specs.Bodies.{Bodies}
+use Rattle.mdr_rich_sources.specs.Runs.{Meant, MeantCode, begins, called_by, calls, calls_back, does_with, downcall, handles, in_place, in_user, interrupts, kernel_of, kernel_with, meant_by, returns_to, upcall, watched_by, written_run}
 use Rattle.mdr_watched.specs.Driver.{Driver, driver_of, entry_roots, is_user, touched_by}
 use Rattle.mdr_watched.specs.Views.{opened, taken}
 use Rattle.mdr_watched.specs.Watched as whole

@@ -6,7 +6,6 @@ use Rattle.mdr_body.specs.Bodies.{body_rule}
 use Rattle.mdr_body.specs.Uses.{first_use}
 use Rattle.mdr_faults.specs.Faults.{Right, after}
 use Rattle.mdr_meaning.specs.Bodies.{started}
-use Rattle.mdr_meaning.specs.Bodies as plain
 use Rattle.mdr_program.specs.Programs.{program_of, program_right, typed}
 use Rattle.mdr_typing.specs.Profile.{profile_rules}
 use Rattle.mdr_rich_meaning.specs.Bodies.{rich_started}

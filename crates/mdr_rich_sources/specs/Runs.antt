@@ -28,7 +28,7 @@ use Rattle.mdr_rich_meaning.specs.Bodies.{rich_started}
 use Rattle.mdr_rich_sources.specs.Bodies.{Bodies, kernel_side, user_side}
 use Rattle.mdr_watched.specs.Driver.{entry_roots, is_user, result_roots, touched_by}
 use Rattle.mdr_watched.specs.Views.{gained, may_touch, opened, renewed, taken, top}
-use Rattle.mdr_watched.specs.Watched.{closing, sent}
+use Rattle.mdr_watched.specs.Watched.{closing}
 
 -- the tree of a function that is started, with fuel, its arguments, so many active before it, over what lies below
 abbrev pub Starts : Type 0
