@@ -1,5 +1,5 @@
 -- `&&` and `||`: what their arms leave and give.
-use Rattle.std.proofs.Common.{◌≡◌, ℕ, Bool, true, false, List, [], sym, ap, ◌∙◌}
+use Rattle.std.proofs.Common.{◌≡◌, ℕ, Bool, true, false, List, [], OnOk, Result, Ok, Err, sym, ap, ◌∙◌}
 use Rattle.mdr_core.specs.declared.code.Expr.{Expr}
 use Rattle.mdr_core.specs.declared.code.Expr.TheVariants as expr
 use Rattle.mdr_core.specs.declared.code.Step.TheVariants as step
@@ -12,6 +12,11 @@ use Rattle.mdr_rich.specs.Code.{Term}
 use Rattle.mdr_lower.specs.declared.work.Work.{Work}
 use Rattle.mdr_lower.specs.Apart.{apart, either}
 use Rattle.mdr_lower.specs.Lowering.{arm, conjoined, disjoined, inside, kept, low, mapped, put, slot_value, truth, two}
+
+-- where memory isn't wanting, one fact comes of another
+pub then_ok : {A E : Type 0} {P Q : Type 0} (r : Result A E) → (P → Q) → OnOk r P → OnOk r Q
+then_ok (Ok x) f h = f h
+then_ok (Err e) f h = h
 
 module _ (n : ℕ) (a b : Term) (w : Work) where
   -- the right operand's truth, inside an arm
@@ -53,3 +58,6 @@ module _ (n : ℕ) (b : Term) where
 
   pub either_told : (w1 : Work) (left right : Expr) → is_active b ≡ false → right ≡ (low n b w1).1 → expr.Or left right ≡ (either n (w1, left) b).1
   either_told w1 left right idle told = ap (expr.Or left) told ∙ sym (ap (λ t. (chosen t (disjoined n (w1, left) (low n b)) (two expr.Or (w1, left) (low n b))).1) idle)
+
+  pub either_behind : (a : Term) (w w1 w2 : Work) (left : Expr) → left ≡ (low n a w).1 → w1 ≡ (low n a w).0 → w2 ≡ (either n (w1, left) b).0 → w2 ≡ (low n (Term.Or a b) w).0
+  either_behind a w w1 w2 left told grown e = e ∙ (λ i. (either n (grown i, told i) b).0)

@@ -1,4 +1,4 @@
-use Rattle.std.proofs.Common.{◌≡◌, List, [], map, OnOk, Result, Ok, Err, ap, subst, sym, ◌∙◌}
+use Rattle.std.proofs.Common.{◌≡◌, List, [], map, ap, subst, sym, ◌∙◌}
 use Rattle.mdr_core.specs.declared.code.Step.TheVariants as step
 use Rattle.mdr_rich.specs.declared.code.Expr.{Expr as RichExpr}
 use Rattle.mdr_rich.specs.Activity.{are_active}
@@ -7,12 +7,8 @@ use Rattle.mdr_rich.specs.Code.{term_list}
 use Rattle.mdr_rich.specs.Folds.{term_of}
 use Rattle.mdr_lower.specs.Lowering.{called, keeps, low, part, put}
 use Rattle.mdr_lower.proofs.CallArms.{direct_grown, given, service_grown, through_grown}
-use Rattle.mdr_lower.proofs.Connected.{and_left, and_told, either_left, either_told}
+use Rattle.mdr_lower.proofs.Connected.{and_left, and_told, either_left, either_told, either_behind, then_ok}
 use Rattle.mdr_lower.proofs.expressions.+lowering.Goals as goal
-
-then_ok : {A E : Type 0} {P Q : Type 0} (r : Result A E) → (P → Q) → OnOk r P → OnOk r Q
-then_ok (Ok x) f h = f h
-then_ok (Err e) f h = h
 
 pub conjoined-returns-in_ok-branched-clause-grown : goal.conjoined-returns-in_ok-branched-clause-grown
 conjoined-returns-in_ok-branched-clause-grown t c =
@@ -34,6 +30,12 @@ either-returns-in_ok-branched-clause-grown t c =
 pub either-returns-in_ok-right-clause-told : goal.either-returns-in_ok-right-clause-told
 either-returns-in_ok-right-clause-told t c =
     either_told c.args.number (term_of c.args.b.now) c.args.work.now c.args.left c.in_ok-right.right (sym c.is_active.ensures ∙ c.if-is_active.false) c.in_ok-right.ensures.told
+
+pub disjoined-returns-clause-grown : goal.disjoined-returns-clause-grown
+disjoined-returns-clause-grown t c =
+    then_ok c.either.result
+    (λ e. either_behind c.args.number (term_of c.args.b.now) (term_of c.args.a.now) c.args.work.now c.boxed.new.work c.either.new.work c.in_ok-left.left c.in_ok-left.ensures.told c.in_ok-left.ensures.grown e)
+    c.either.ensures.grown
 
 pub low-returns-in_ok-args-in-CallDirect-clause-grown : goal.low-returns-in_ok-args-in-CallDirect-clause-grown
 low-returns-in_ok-args-in-CallDirect-clause-grown t c =

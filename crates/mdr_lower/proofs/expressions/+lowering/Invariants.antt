@@ -54,7 +54,7 @@ abbrev pub decreases-conjoined : goal.decreases-conjoined
 decreases-conjoined l = 8 * max (the_size l.a.now) (the_size l.b.now) + 4
 
 abbrev pub decreases-either : goal.decreases-either
-decreases-either l = 8 * goal.size-either l + 4
+decreases-either l = 8 * the_size l.b.now + 4
 
 abbrev pub decreases-disjoined : goal.decreases-disjoined
 decreases-disjoined l = 8 * max (the_size l.a.now) (the_size l.b.now) + 5
