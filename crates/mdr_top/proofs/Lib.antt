@@ -12,4 +12,5 @@ pub mod Comes
 pub mod Exact
 pub mod Pieces
 pub mod DoneLaws
+pub mod AsWritten
 pub mod Budgets

@@ -9,6 +9,7 @@ pub mod Answers
 pub mod Accepted
 pub mod Done
 pub mod Headline
+pub mod Written
 pub mod Made
 pub mod Wholes
 pub mod Splits

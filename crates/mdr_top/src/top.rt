@@ -17,6 +17,7 @@ ghost use Rattle.mdr_top.specs.Made.{MadeCompletes, MadeMeans};
 ghost use Rattle.mdr_top.specs.Wholes.{WholeMeans};
 ghost use Rattle.mdr_top.specs.Texts.{PrintsAsSplit, TextsMean};
 ghost use Rattle.mdr_top.specs.Words.{command_of};
+ghost use Rattle.mdr_top.specs.Written.{MeansAsWritten};
 ghost use Rattle.mdr_top.specs.Writing.{Writes, TellsFailure};
 
 use crate::answer::answered;
@@ -94,6 +95,7 @@ pub fn run<S: Shelf, O: Sink, F: Far>(
     ensures write_cause { WriteCause (map string_bytes words.now.items) (⟦<(S, O, F) as Seen>⟧.at (shelf.old, out.old, far.old)) (⟦<(S, O, F) as Seen>⟧.at (shelf.new, out.new, far.new)) result }
     ensures failed_write { TellsFailure (O.calls out.old) (O.calls out.new) result }
     ensures meaning { MeansWhereHonest (map string_bytes words.now.items) (⟦<(S, O, F) as Seen>⟧.at (shelf.old, out.old, far.old)) (⟦<(S, O, F) as Seen>⟧.at (shelf.new, out.new, far.new)) result }
+    ensures as_written { MeansAsWritten (map string_bytes words.now.items) (⟦<(S, O, F) as Seen>⟧.at (shelf.old, out.old, far.old)) (⟦<(S, O, F) as Seen>⟧.at (shelf.new, out.new, far.new)) result }
     ensures whole_meaning { WholeMeans (map string_bytes words.now.items) (⟦<(S, O, F) as Seen>⟧.at (shelf.old, out.old, far.old)) (⟦<(S, O, F) as Seen>⟧.at (shelf.new, out.new, far.new)) result }
     ensures made_meaning { MadeMeans (map string_bytes words.now.items) (⟦<(S, O, F) as Seen>⟧.at (shelf.old, out.old, far.old)) (⟦<(S, O, F) as Seen>⟧.at (shelf.new, out.new, far.new)) result }
     ensures texts_meaning { TextsMean (map string_bytes words.now.items) (⟦<(S, O, F) as Seen>⟧.at (shelf.old, out.old, far.old)) (⟦<(S, O, F) as Seen>⟧.at (shelf.new, out.new, far.new)) result }
