@@ -6,9 +6,11 @@ use Rattle.mdr_plain.specs.Scripts.{Finish}
 use Rattle.mdr_rich_sources.proofs.Sourced.{sources_written}
 use Rattle.mdr_source.proofs.Whose.{come_source}
 use Rattle.mdr_split_runner.specs.Reports.{Reported}
+use Rattle.mdr_top.specs.Done.{Does}
 use Rattle.mdr_top.specs.Headline.{MeansBy, MeansWhereHonest}
 use Rattle.mdr_top.specs.Outside.{Outside}
 use Rattle.mdr_top.specs.Written.{MeansAsWritten, MeansAsWrittenBy}
+use Rattle.mdr_top.proofs.DoneLaws.{does_mean}
 
 written_by : (words : List (List ℕ)) (before after : Outside) (s : Status) → MeansBy words before after s → MeansAsWrittenBy words before after s
 written_by words before after s m = record {
@@ -19,3 +21,6 @@ written_by words before after s m = record {
 
 pub as_written : (words : List (List ℕ)) (before after : Outside) (s : Status) → MeansWhereHonest words before after s → MeansAsWritten words before after s
 as_written words before after s means honest source_name script_name manner named is = written_by words before after s ((means honest).means source_name script_name manner named is)
+
+pub does_as_written : (words : List (List ℕ)) (before after : Outside) (s : Status) → Does words before after s → MeansAsWritten words before after s
+does_as_written words before after s does = as_written words before after s (λ honest. does_mean words before after s does honest)

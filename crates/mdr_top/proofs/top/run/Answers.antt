@@ -1,7 +1,7 @@
 use Rattle.std.proofs.Common.{map}
 use Rattle.std.specs.Prelude.{string_bytes}
 use Rattle.mdr_top.proofs.DoneLaws.{prints_so, does_made, does_mean, does_run, does_tell, texts_are_meant}
-use Rattle.mdr_top.proofs.AsWritten.{as_written}
+use Rattle.mdr_top.proofs.AsWritten.{does_as_written}
 use Rattle.mdr_top.proofs.Complete.{completes, made_completes}
 use Rattle.mdr_top.proofs.Comes.{comes_last, prints_comes}
 use Rattle.mdr_top.proofs.Exact.{cut_completes, made_exactly, prints_exactly, usage_comes, whole_completes}
@@ -21,7 +21,7 @@ pub returns-clause-meaning : goal.returns-clause-meaning
 returns-clause-meaning g c = λ honest. does_mean _ _ _ _ c.printed.ensures.does honest
 
 pub returns-clause-as_written : goal.returns-clause-as_written
-returns-clause-as_written g c = as_written _ _ _ _ (λ honest. does_mean _ _ _ _ c.printed.ensures.does honest)
+returns-clause-as_written g c = does_as_written _ _ _ _ c.printed.ensures.does
 
 pub returns-clause-whole_meaning : goal.returns-clause-whole_meaning
 returns-clause-whole_meaning g c = λ source_name script_name manner named is. does_run _ _ _ _ source_name script_name manner named c.printed.ensures.does is
