@@ -1,5 +1,5 @@
 -- `&&` and `||`: what their arms leave and give.
-use Rattle.std.proofs.Common.{◌≡◌, ℕ, true, false, List, [], OnOk, Result, Ok, Err, sym, ap, ◌∙◌}
+use Rattle.std.proofs.Common.{◌≡◌, ℕ, Bool, true, false, List, [], OnOk, Result, Ok, Err, sym, ap, ◌∙◌}
 use Rattle.mdr_core.specs.declared.code.Expr.{Expr}
 use Rattle.mdr_core.specs.declared.code.Expr.TheVariants as expr
 use Rattle.mdr_core.specs.declared.code.Step.TheVariants as step

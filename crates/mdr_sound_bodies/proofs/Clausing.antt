@@ -17,9 +17,11 @@ use Rattle.mdr_rich.specs.Typing.{Has, AreTyped, AreLabels, AreClauses}
 use Rattle.mdr_syntax.specs.declared.tree.Const.{Const}
 use Rattle.mdr_syntax.specs.declared.tree.Label.{Label}
 use Rattle.mdr_faults.specs.declared.fault.FaultKind.TheVariants.{Redefined}
+use Rattle.mdr_faults.specs.declared.scope.Constant.{Constant}
 use Rattle.mdr_faults.specs.declared.scope.Scope.{Scope}
-use Rattle.mdr_faults.specs.Faults.{Right, told}
+use Rattle.mdr_faults.specs.Faults.{Checked, Right, told}
 use Rattle.mdr_operand.specs.declared.operand.Integer.{Integer}
+use Rattle.mdr_operand.specs.declared.operand.Operand.{Operand}
 use Rattle.mdr_operand.specs.declared.room.LocalName.{LocalName}
 use Rattle.mdr_operand.specs.Forms.{integer_at}
 use Rattle.mdr_operand.specs.Written.{Written}

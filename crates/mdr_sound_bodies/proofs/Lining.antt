@@ -28,7 +28,7 @@ use Rattle.mdr_body.specs.Labels.{labels_made, labels_behind}
 use Rattle.mdr_body.specs.Clauses.{clause_place, ends, is_last, label_kind, made_clause, no_clauses, sorted}
 use Rattle.mdr_body.specs.Locals.{with_local, is_taken, entered, left, numbered}
 use Rattle.mdr_body.specs.Addresses.{takes_in, perhaps_takes, takes_at, takes_along, clauses_take, hides}
-use Rattle.mdr_body.specs.Statements.{Rules, stmt, single, condition, perhaps_condition, appended, pair, ForHead, heads_made, heads_behind, steps_made, steps_behind, for_head, behind_head, inner_jumps, loop_jumps, clause_jumps, jumps_before, block_of, as_part, if_of, while_of, for_of, do_of, switch_of, tested_value, tested_at, line_behind, perhaps_behind, lines_behind, clauses_behind, line_made, perhaps_made, lines_made, clauses_made}
+use Rattle.mdr_body.specs.Statements.{Rules, stmt, single, condition, perhaps_condition, appended, pair, ForHead, heads_made, heads_behind, steps_made, steps_behind, for_head, behind_head, inner_jumps, loop_jumps, clause_jumps, jumps_before, block_of, as_part, if_of, while_of, for_of, do_of, switch_of, switch_by, tested_value, tested_at, line_behind, perhaps_behind, lines_behind, clauses_behind, line_made, perhaps_made, lines_made, clauses_made}
 use Rattle.mdr_sound_code.proofs.Rights.{same_right, after_right, both_right, demand_right}
 use Rattle.mdr_sound_bodies.specs.Rules.{AreSoundRules}
 use Rattle.mdr_sound_bodies.specs.Written.{PerhapsHasNumbers, IsStatement, AreStatements, IsProper, AreProper, AreProperClauses}
