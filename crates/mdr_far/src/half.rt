@@ -124,13 +124,15 @@ impl UserHalf {
         Ok(half)
     }
 
-    /// The reply to a message. A message that is refused leaves the half as it was: it replies from then on as if
-    /// the message hadn't come. After each reply it holds the memory that the definition's user half has then.
+    /// The reply to a message. A message that is refused leaves the half as it was, each cell and each pair too: it replies
+    /// from then on as if the message hadn't come. After each reply it holds the memory that the definition's user half has
+    /// then.
     pub fn deliver(&mut self, alloc: Global, bytes: &[u8]) -> Result<Vec<u8>, OutOfMemory>
         ensures reply { IfOk result (λ reply. IsHonestReply (driver_in self.old) (sent_of self.old.exchanges) bytes.now reply.items) }
         ensures kept { IfOk result (λ reply. self.new ≡ after_reply self.old bytes.now reply.items self.new.memory) }
         ensures paired { IfOk result (λ reply. HoldsMemory self.new) }
         ensures refused { IfOk result (λ reply. (reason : ℕ) → reply.items ≡ text (Refuse reason) → ReplyAlike self.new self.old) }
+        ensures untouched { IfOk result (λ reply. (reason : ℕ) → reply.items ≡ text (Refuse reason) → self.new.memory ≡ self.old.memory) }
         ensures err { OnErr result (self.new ≡ lost self.old) }
         ensures held { IfOk result (λ reply. is_some self.old.memory ≡ true) }
     {

@@ -1,6 +1,6 @@
 -- protocol
 -- What the state of the code stands for, and what it tells of the messages so far.
-use Rattle.std.specs.Prelude.{◌≡◌, ℕ, suc, ◌+◌, ◌≤◌, List, [], ◌∷◌, length}
+use Rattle.std.specs.Prelude.{◌≡◌, ℕ, suc, ◌+◌, ◌≤◌, true, List, [], ◌∷◌, length}
 use Rattle.mdr_core.specs.declared.plan.Plan.{Plan}
 use Rattle.mdr_core.specs.declared.program.Program.{Program}
 use Rattle.mdr_events.specs.Held.{Held, bare}
@@ -14,6 +14,7 @@ use Rattle.mdr_model.specs.declared.memory.Cell.{Cell}
 use Rattle.mdr_model.specs.declared.message.Message.{Message}
 use Rattle.mdr_model.specs.KernelState.{Reading}
 use Rattle.mdr_model.specs.Memory.{Memory}
+use Rattle.mdr_model.specs.Refusals.{is_refusal}
 use Rattle.mdr_model.specs.User.{allowance, granted}
 use Rattle.mdr_split.specs.User.{AwaitsAnswer, AwaitsBack, Delivered, Nothing, User, Work, deliver, first_user, user_after}
 use Rattle.mdr_watched.specs.Driver.{Driver, driver_of}
@@ -81,11 +82,12 @@ replies_so d fuel reply s = record { reply = reply; user = user_of d fuel s }
 
 -- ---- one message
 
--- the reply to a message, and what is open after it, whatever ticks later messages grant
+-- the reply to a message, and what is open after it, whatever ticks later messages grant. A refused message leaves all as it was
 pub record Replies (d : Driver) (s : State) (x : Reading) (reply : Message) (s' : State) : Type 0 where
   pub kept : kept_by s'.awaits ≤ kept_by s.awaits + granted x
   pub opens : Opens d s'
   pub by : (fuel more : ℕ) → kept_by s.awaits + granted x + more ≤ fuel → cut_delivered more (deliver d (suc fuel) (user_of d fuel s) x) ≡ cut_delivered more (replies_so d fuel reply s')
+  pub refused : is_refusal reply ≡ true → s' ≡ s
 
 -- ---- messages in turn
 

@@ -1,9 +1,10 @@
 // One message.
 
-ghost use Rattle.std.specs.Prelude.{◌≡◌, [], ◌∷◌, ◌++◌, List, Ok, IfOk, OnOk};
+ghost use Rattle.std.specs.Prelude.{◌≡◌, [], ◌∷◌, ◌++◌, List, true, Ok, IfOk, OnOk};
 ghost use Rattle.mdr_core.specs.Sound.{HasFewNumbers, IsSound};
 ghost use Rattle.mdr_model.specs.declared.message.Message.TheVariants as message_is;
 ghost use Rattle.mdr_model.specs.KernelState.{Reading};
+ghost use Rattle.mdr_model.specs.Refusals.{is_refusal};
 ghost use Rattle.mdr_split.specs.User.{user_reply};
 ghost use Rattle.mdr_watched.specs.Driver.{driver_of};
 ghost use Rattle.mdr_user_code.specs.declared.opening.Opening.TheVariants as opening;
@@ -134,7 +135,8 @@ fn reply_to(
     }
 }
 
-/// The reply to a message, which is read already. Where memory is wanting, nothing is promised of the state.
+/// The reply to a message, which is read already. One that is refused leaves the state as it was. Where memory is wanting,
+/// nothing is promised of the state.
 pub fn delivered(
     alloc: Global,
     program: &Program,
@@ -147,6 +149,7 @@ pub fn delivered(
     requires opens { Opens (driver_of program.now plan.now) state.old }
     ensures reply { IfOk result (λ r. (before : List Reading) → Follows (driver_of program.now plan.now) before state.old → r ≡ user_reply (driver_of program.now plan.now) before message.now) }
     ensures follows { OnOk result ((before : List Reading) → Follows (driver_of program.now plan.now) before state.old → Follows (driver_of program.now plan.now) (before ++ message.now ∷ []) state.new) }
+    ensures refused { IfOk result (λ r. is_refusal r ≡ true → state.new ≡ state.old) }
 {
     let scene = Scene { program, plan };
     let reply = reply_to(alloc, scene, state, message)?;

@@ -1,7 +1,9 @@
-use Rattle.std.proofs.Common.{ℕ, List, ◌++◌, refl, subst, sym, ap, ◌∙◌}
+use Rattle.std.proofs.Common.{◌≡◌, ℕ, List, ◌++◌, Some, refl, subst, sym, ap, ◌∙◌}
 use Rattle.std.specs.Prelude.{option_map}
 use Rattle.mdr_exchanges.specs.Runs.{sent_of}
 use Rattle.mdr_model.specs.Bytes.{readings}
+use Rattle.mdr_model.specs.declared.message.Message.TheVariants.{Refuse}
+use Rattle.mdr_model.specs.Text.{text}
 use Rattle.mdr_over_bytes.specs.OverBytes.{IsHonestReply, user_reply_to_bytes}
 use Rattle.mdr_track.specs.Tracked.{pairs_of}
 use Rattle.mdr_user_code.specs.declared.state.State.{State}
@@ -41,6 +43,14 @@ returns-in-Ok-clause-refused c = λ reason refused more last.
     (at_ok c.reply_to-reply.result c.in-Ok.reply c.in-Ok.ensures.ok.0 (λ r. (before : List (List ℕ)) → Follows d (readings before) c.in-Some.state → IsHonestReply d before c.args.bytes.now r.items) c.reply_to-reply.ensures.reply (sent_of es) follows)
     refused more last
     ∙ ap (λ (h : HalfState). user_reply_to_bytes (driver_in h) (sent_of h.exchanges ++ more) last) c.self.view_is
+
+pub returns-in-Ok-clause-untouched : goal.returns-in-Ok-clause-untouched
+returns-in-Ok-clause-untouched c = λ reason refused.
+    let s = c.in-Some.state in
+    let s' = c.reply_to-reply.new.state in
+    let same = at_ok c.reply_to-reply.result c.in-Ok.reply c.in-Ok.ensures.ok.0 (λ r. (n : ℕ) → r.items ≡ text (Refuse n) → s' ≡ s) c.reply_to-reply.ensures.refused reason refused in
+    ap (option_map (λ (x : State). x.memory)) (c.put.ensures ∙ (ap Some same ∙ (sym c.in-Some.is ∙ c.take.ensures.value)))
+    ∙ ap (λ (h : HalfState). h.memory) c.self.view_is
 
 pub reply_to-reply-requires-clause-opens : goal.reply_to-reply-requires-clause-opens
 reply_to-reply-requires-clause-opens c =
