@@ -122,13 +122,27 @@ fn paired(pairs: &mut Tracker, serial: u64, block: Block) -> bool {
     }
 }
 
+fn is_block(found: Option<Block>, block: Block) -> bool {
+    match found {
+        Some(it) => it.slot == block.slot && it.serial == block.serial,
+        None => false,
+    }
+}
+
+fn is_serial(found: Option<u64>, serial: u64) -> bool {
+    match found {
+        Some(it) => it == serial,
+        None => false,
+    }
+}
+
 #[test]
 fn a_pair_is_found_by_both_and_by_none_behind_its_death(rt: HostRuntime) -> Result<(), Fail> {
     let block = Block { slot: 2, serial: 3 };
     let mut pairs = Tracker::new(rt.alloc());
     let promised = pairs.reserve(1).is_ok() && pairs.spare() == 1;
     let first = paired(&mut pairs, 9, block) && pairs.spare() == 0;
-    let found = pairs.user_of(9) == Some(block) && pairs.serial_of(block) == Some(9);
+    let found = is_block(pairs.user_of(9), block) && is_serial(pairs.serial_of(block), 9);
     pairs.drop_pair(9);
     let gone = pairs.user_of(9).is_none() && pairs.serial_of(block).is_none();
     drop(pairs);
