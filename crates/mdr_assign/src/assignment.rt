@@ -4,6 +4,7 @@ ghost use Rattle.std.specs.Prelude.{◌≡◌, ◌&&◌, IfOk, Err};
 ghost use Rattle.mdr_assign.specs.declared.assignment.Destination.{Destination};
 ghost use Rattle.mdr_rich.specs.declared.code.Expr.{Expr};
 ghost use Rattle.mdr_operand.specs.declared.operand.Operand.{Operand};
+ghost use Rattle.mdr_operand.specs.Forms.{is_active_operand};
 ghost use Rattle.mdr_faults.specs.Faults.{Checked, told, after, both};
 ghost use Rattle.mdr_binary.specs.Binaries.{calculation_of};
 ghost use Rattle.mdr_assign.specs.Assignments.{scalar_object, destination_at, given, plain_at, old_value, compound_at, assigned_by, is_compound, left_at, assigned_at, assignment_rule};
