@@ -66,7 +66,7 @@ fn take(
 ) -> Result<(), OutOfMemory>
     requires { TellsTo (driver_in scene) memory.old.agreed message.now copy }
     ensures copy { OnOk result (memory.new.agreed ≡ copy) }
-    ensures lived { OnOk result (LivesTo (lived_by scene.program.now (deaths_in message.now) (news_in message.now)) memory.old memory.new) }
+    ensures lived { OnOk result (LivesTo (lived_by scene.entry.program.now (deaths_in message.now) (news_in message.now)) memory.old memory.new) }
 {
     memory.take(alloc, scene.program, tidings(message), copy)?;
     Ok(())
