@@ -6,12 +6,14 @@ ghost use Rattle.mdr_model.specs.declared.message.Message.TheVariants as message
 ghost use Rattle.mdr_model.specs.KernelState.{Reading};
 ghost use Rattle.mdr_model.specs.Refusals.{is_refusal};
 ghost use Rattle.mdr_split.specs.User.{user_reply};
+ghost use Rattle.mdr_user_memory.specs.Kept.{LivesTo};
+ghost use Rattle.mdr_user_memory.specs.Lived.{lived_by};
 ghost use Rattle.mdr_watched.specs.Driver.{driver_of};
 ghost use Rattle.mdr_user_code.specs.declared.opening.Opening.TheVariants as opening;
 ghost use Rattle.mdr_user_code.specs.Opening.{opening_for};
 ghost use Rattle.mdr_user_code.specs.Replying.{Proceeds};
 ghost use Rattle.mdr_user_code.specs.Standing.{Follows, IsFit, Opens, Replies, driver_in};
-ghost use Rattle.mdr_user_code.specs.Tidings.{TellsTo};
+ghost use Rattle.mdr_user_code.specs.Tidings.{TellsTo, deaths_in, news_in};
 
 use crate::first::first_memory;
 use crate::opening::{Opening, Turn, opens};
@@ -63,7 +65,8 @@ fn take(
     copy: RisingBlocks,
 ) -> Result<(), OutOfMemory>
     requires { TellsTo (driver_in scene) memory.old.agreed message.now copy }
-    ensures { OnOk result (memory.new.agreed ≡ copy) }
+    ensures copy { OnOk result (memory.new.agreed ≡ copy) }
+    ensures lived { OnOk result (LivesTo (lived_by scene.entry.program.now (deaths_in message.now) (news_in message.now)) memory.old memory.new) }
 {
     memory.take(alloc, scene.program, tidings(message), copy)?;
     Ok(())

@@ -7,12 +7,12 @@ use Rattle.mdr_model.specs.Text.{text}
 use Rattle.mdr_over_bytes.specs.OverBytes.{IsHonestReply, user_reply_to_bytes}
 use Rattle.mdr_track.specs.Tracked.{pairs_of}
 use Rattle.mdr_user_code.specs.declared.state.State.{State}
-use Rattle.mdr_user_code.specs.Standing.{Follows, user_memory}
+use Rattle.mdr_user_code.specs.Standing.{Follows, lived_after, user_memory}
 use Rattle.mdr_user_memory.specs.Kept.{Kept}
 use Rattle.mdr_user_memory.specs.Paired.{Paired}
 use Rattle.mdr_watched.specs.Driver.{driver_of}
 use Rattle.mdr_far.specs.Halves.{HalfState, driver_in}
-use Rattle.mdr_far.specs.Memories.{GoesWith}
+use Rattle.mdr_far.specs.Memories.{AreIts, GoesWith}
 use Rattle.mdr_far.proofs.HalfSteps.{at_some, then_some, at_ok, on_ok, follows_next, honest_more, memory_paired, replies_on}
 use Rattle.mdr_far.proofs.half.UserHalf.deliver.Goals as goal
 
@@ -71,3 +71,15 @@ returns-in-Ok-clause-paired c =
     (on_ok c.reply_to-reply.result c.in-Ok.reply c.in-Ok.ensures.ok.0 _ c.reply_to-reply.ensures.follows (sent_of es) follows) in
     let own = subst (λ (k : Kept). Paired k.agreed k.region.contents (pairs_of k.pairs)) c.memory.ensures c.is_paired.ensures.paired in
     subst (λ o. GoesWith (user_memory d (readings (sent_of es'))) (option_map (λ (s : State). s.memory) o)) (sym c.put.ensures) (memory_paired d es' s' s'.memory follows' refl own)
+
+pub returns-in-Ok-clause-lived : goal.returns-in-Ok-clause-lived
+returns-in-Ok-clause-lived c =
+    let d = driver_of c.self.inside.program c.self.inside.plan in
+    let es = c.self.inside.exchanges in
+    let es' = c.recorded.new.exchanges in
+    let s' = c.reply_to-reply.new.state in
+    let follows = at_some (λ (s : State). Follows d (readings (sent_of es)) s) c.self.inside.state c.in-Some.state (sym c.take.ensures.value ∙ c.in-Some.is) c.self.invariant.follows in
+    let follows' =
+    follows_next d es es' s' c.args.bytes.now c.in-Ok.reply.items c.in-Ok.ensures.ok.1
+    (on_ok c.reply_to-reply.result c.in-Ok.reply c.in-Ok.ensures.ok.0 _ c.reply_to-reply.ensures.follows (sent_of es) follows) in
+    subst (λ o. AreIts (lived_after d (readings (sent_of es'))) (option_map (λ (s : State). s.memory) o)) (sym c.put.ensures) follows'.lived
