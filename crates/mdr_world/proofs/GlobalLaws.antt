@@ -1,5 +1,5 @@
 -- First values of globals name globals that were born before.
-use Rattle.std.proofs.Common.{◌≡◌, ◌∙◌, ◌+◌, ◌<◌, ◌≤◌, ℕ, zero, suc, ◌⊎◌, inl, inr, Bool, true, false, cond, List, [], ◌∷◌, ◌++◌, length, map, drop, get_or, Some, None, refl, sym, ap, subst, arith}
+use Rattle.std.proofs.Common.{◌≡◌, ◌∙◌, ◌+◌, ◌<◌, ◌≤◌, ℕ, zero, suc, ◌⊎◌, inl, inr, Bool, true, false, cond, List, [], ◌∷◌, ◌++◌, length, fold, map, get_or, Some, None, refl, sym, ap, subst, arith}
 use Rattle.std.specs.Prelude.{◌==◌, is_some, slice_get}
 use Rattle.std.proofs.lemmas.Bool.{eq-eqb}
 use Rattle.std.proofs.lemmas.Option.{slice_get_cases, slice_get_within}
@@ -10,7 +10,7 @@ use Rattle.mdr_core.specs.declared.value.Value.{Value}
 use Rattle.mdr_core.specs.declared.value.Value.TheVariants as value
 use Rattle.mdr_core.specs.Layout.{Leaf}
 use Rattle.mdr_core.specs.Sound.{IsFirstValue, IsSoundGlobal, all_cells}
-use Rattle.mdr_mem.specs.Contents.{births_in, current, wire_in}
+use Rattle.mdr_mem.specs.Contents.{births_in, current, is_birth, wire_in}
 use Rattle.mdr_mem.specs.declared.cells.Life.{Life}
 use Rattle.mdr_meaning.specs.Numbers.{Numbered}
 use Rattle.mdr_meaning.specs.Values.{wire_of, wire_view}
@@ -59,9 +59,12 @@ module _ (program : Program) (g : ℕ) (def : GlobalDef) (is : IsSoundGlobal pro
 
 -- ---- the globals that are born
 
+births_from : (k : ℕ) (m : Memory) → fold (λ (a : ℕ) (x : Life). a + cond (is_birth x) 1 0) k (map birth_of m) ≡ k + length m
+births_from k [] = omega arith
+births_from k (b ∷ m) = let more : (k + 1) + length m ≡ k + suc (length m) = omega arith in births_from (k + 1) m ∙ more
+
 births_all : (m : Memory) → births_in (map birth_of m) ≡ length m
-births_all [] = refl
-births_all (b ∷ m) = ap suc (births_all m)
+births_all m = let none : 0 + length m ≡ length m = omega arith in births_from 0 m ∙ none
 
 -- those before one live
 live_before : (known : Numbered) (n : ℕ) (gs : List GlobalDef) (m rest : Memory) (s : ℕ) → m ++ rest ≡ global_blocks known n gs → n ≤ s → s < n + length m → is_live m s ≡ true
