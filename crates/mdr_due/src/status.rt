@@ -1,7 +1,10 @@
 // How the program ends.
 
 ghost use Rattle.std.specs.Prelude.{◌≡◌};
+ghost use Rattle.mdr_due.specs.declared.status.Status.TheVariants.{OutOfMemory as Wanting};
 ghost use Rattle.mdr_due.specs.Statuses.{number_of};
+
+use mdr_core::OutOfMemory;
 
 /// How the program ends. Its number is what the program gives to the system.
 #[derive(Clone, Copy)]
@@ -57,5 +60,13 @@ impl Status {
             Status::HalvesRefused => 12,
             Status::NotVerified => 13,
         }
+    }
+}
+
+impl From<OutOfMemory> for Status {
+    ghost from_gives = { λ _ s. s ≡ Wanting };
+
+    fn from(_e: OutOfMemory) -> Status {
+        Status::OutOfMemory
     }
 }

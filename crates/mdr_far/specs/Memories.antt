@@ -1,15 +1,15 @@
 -- protocol
 -- What is told of the user half's own memory, which goes with the definition's by the kernel's serials.
-use Rattle.std.specs.Prelude.{◌≡◌, ℕ, Option, Some, None}
+use Rattle.std.specs.Prelude.{Option, Some, None}
 use Rattle.mdr_exchanges.specs.Runs.{sent_of}
 use Rattle.mdr_mem.specs.Contents.{Contents}
 use Rattle.mdr_model.specs.Bytes.{readings}
 use Rattle.mdr_model.specs.Memory.{Memory}
-use Rattle.mdr_region.specs.Layout.{places_of}
 use Rattle.mdr_track.specs.Pairs.{Pairs}
 use Rattle.mdr_track.specs.Tracked.{pairs_of}
-use Rattle.mdr_user_code.specs.Standing.{user_memory}
-use Rattle.mdr_user_memory.specs.Kept.{Kept}
+use Rattle.mdr_user_code.specs.Standing.{lived_after, user_memory}
+use Rattle.mdr_user_memory.specs.Kept.{IsLived, Kept}
+use Rattle.mdr_user_memory.specs.Lived.{Lived}
 use Rattle.mdr_user_memory.specs.Paired.{Paired}
 use Rattle.mdr_far.specs.Halves.{HalfState, driver_in}
 
@@ -31,9 +31,14 @@ pub record ArePairsOf (m : Memory) (pairs : Pairs) : Type 0 where
   pub contents : Contents
   pub paired : Paired m contents pairs
 
--- a memory goes with this one, and after its births and deaths so many places of it are used, and there are so many
-pub record IsLayoutOf (m : Memory) (places : ℕ × ℕ) : Type 0 where
-  pub contents : Contents
-  pub pairs : Pairs
-  pub paired : Paired m contents pairs
-  pub laid : places ≡ places_of contents.lives
+-- the births and deaths that messages tell the half: of the globals, and then of each message that wasn't refused, its deaths before its births
+abbrev pub lived_in : HalfState → Lived
+lived_in h = lived_after (driver_in h) (readings (sent_of h.exchanges))
+
+abbrev pub AreIts : Lived → Option Kept → Type 0
+AreIts l None = ⊥
+AreIts l (Some u) = IsLived l u
+
+-- they are those of its own memory, in their order
+abbrev pub HasLived : HalfState → Type 0
+HasLived h = AreIts (lived_in h) h.memory

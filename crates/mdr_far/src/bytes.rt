@@ -1,9 +1,11 @@
 // One message as bytes.
 
-ghost use Rattle.std.specs.Prelude.{◌≡◌, ℕ, [], ◌∷◌, ◌++◌, List, IfOk, OnOk};
+ghost use Rattle.std.specs.Prelude.{◌≡◌, ℕ, [], ◌∷◌, ◌++◌, List, true, IfOk, OnOk};
 ghost use Rattle.mdr_core.specs.Sound.{IsSound};
 ghost use Rattle.mdr_model.specs.Bytes.{readings};
 ghost use Rattle.mdr_model.specs.KernelState.{Reading};
+ghost use Rattle.mdr_model.specs.declared.message.Message.TheVariants.{Refuse};
+ghost use Rattle.mdr_model.specs.Refusals.{is_refusal};
 ghost use Rattle.mdr_model.specs.Text.{text};
 ghost use Rattle.mdr_msg.specs.WellFormed.{IsMessage};
 ghost use Rattle.mdr_over_bytes.specs.OverBytes.{IsHonestReply};
@@ -37,6 +39,7 @@ fn told(
     requires opens { Opens (driver_of program.now plan.now) state.old }
     ensures reply { IfOk result (λ r. (before : List Reading) → Follows (driver_of program.now plan.now) before state.old → r ≡ user_reply (driver_of program.now plan.now) before reading) }
     ensures follows { OnOk result ((before : List Reading) → Follows (driver_of program.now plan.now) before state.old → Follows (driver_of program.now plan.now) (before ++ reading ∷ []) state.new) }
+    ensures refused { IfOk result (λ r. is_refusal r ≡ true → state.new ≡ state.old) }
 {
     let reply = delivered(alloc, program, plan, state, &reading);
     apart(reply, reading)
@@ -51,7 +54,7 @@ fn written(alloc: Global, message: Message) -> Result<Vec<u8>, OutOfMemory>
     apart(bytes, message)
 }
 
-/// The reply's bytes to a message's bytes.
+/// The reply's bytes to a message's bytes. A message that is refused leaves the state as it was.
 pub(crate) fn reply_to(
     alloc: Global,
     program: &Program,
@@ -64,6 +67,7 @@ pub(crate) fn reply_to(
     requires opens { Opens (driver_of program.now plan.now) state.old }
     ensures reply { IfOk result (λ r. (before : List (List ℕ)) → Follows (driver_of program.now plan.now) (readings before) state.old → IsHonestReply (driver_of program.now plan.now) before bytes.now r.items) }
     ensures follows { OnOk result ((before : List (List ℕ)) → Follows (driver_of program.now plan.now) (readings before) state.old → Follows (driver_of program.now plan.now) (readings (before ++ bytes.now ∷ [])) state.new) }
+    ensures refused { IfOk result (λ r. (reason : ℕ) → r.items ≡ text (Refuse reason) → state.new ≡ state.old) }
 {
     let reading = reading_of(alloc, bytes)?;
     let reply = told(alloc, program, plan, state, reading)?;

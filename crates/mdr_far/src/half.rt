@@ -13,9 +13,10 @@ ghost use Rattle.mdr_model.specs.Bytes.{readings};
 ghost use Rattle.mdr_track.specs.Tracked.{pairs_of};
 ghost use Rattle.mdr_region.specs.Layout.{places_of};
 ghost use Rattle.mdr_user_code.specs.Standing.{Follows, IsFit};
+ghost use Rattle.mdr_user_memory.specs.Kept.{IsLived};
 ghost use Rattle.mdr_user_memory.specs.Paired.{Paired};
 ghost use Rattle.mdr_watched.specs.Driver.{driver_of};
-ghost use Rattle.mdr_far.specs.Memories.{ArePairsOf, HoldsMemory, IsLayoutOf, memory_of};
+ghost use Rattle.mdr_far.specs.Memories.{ArePairsOf, HasLived, HoldsMemory, lived_in, memory_of};
 ghost use Rattle.mdr_far.specs.Halves.{new_half, after_reply, lost, driver_in, ReplyAlike, Load};
 
 use crate::bytes::reply_to;
@@ -31,12 +32,14 @@ use mdr_user_memory::UserMemory;
 use std::alloc::Global;
 use std::marker::Model;
 
-/// The user half of a driver: it gets messages and replies to them. Once memory was wanting it replies no more.
+/// The user half of a driver: it gets messages and replies to them. Once memory was wanting it replies no more, and
+/// answers that want from then on.
 #[derive(Drop)]
 pub struct UserHalf {
     program: Program,
     plan: Plan,
     state: Option<State>,
+    wanted: Option<OutOfMemory>,
     exchanges: Items<Exchange>,
 }
 
@@ -83,6 +86,16 @@ fn recorded(
     Ok(reply)
 }
 
+/// The want of memory that there was.
+fn wanting(wanted: Option<OutOfMemory>) -> OutOfMemory
+    requires { is_some wanted ≡ true }
+{
+    match wanted {
+        Some(error) => error,
+        None => unreachable!(),
+    }
+}
+
 fn half_of(alloc: Global, source: HalfSource, state: State) -> UserHalf
     requires sound { IsSound source.program }
     requires fit { IsFit source.plan source.program }
@@ -94,6 +107,7 @@ fn half_of(alloc: Global, source: HalfSource, state: State) -> UserHalf
         program,
         plan,
         state: Some(state),
+        wanted: None,
         exchanges: Items::new(alloc),
     }
 }
@@ -104,6 +118,7 @@ impl UserHalf {
         requires fit { IsFit source.plan source.program }
         ensures begun { IfOk result (λ h. h ≡ new_half source.program source.plan h.memory) }
         ensures paired { IfOk result HoldsMemory }
+        ensures lived { IfOk result HasLived }
     {
         match begins(alloc, &source.program, &source.plan) {
             Ok(state) => {
@@ -118,24 +133,28 @@ impl UserHalf {
     pub fn load(alloc: Global, user: &[u8], plan: &[u8]) -> Result<UserHalf, LoadError>
         ensures load { Load user.now plan.now result }
         ensures paired { IfOk result HoldsMemory }
+        ensures lived { IfOk result HasLived }
     {
         let source = source(alloc, user, plan)?;
         let half = UserHalf::begin(alloc, source)?;
         Ok(half)
     }
 
-    /// The reply to a message. A message that is refused leaves the half as it was: it replies from then on as if
-    /// the message hadn't come. After each reply it holds the memory that the definition's user half has then.
+    /// The reply to a message. A message that is refused leaves the half as it was, each cell and each pair too: it replies
+    /// from then on as if the message hadn't come. After each reply it holds the memory that the definition's user half has
+    /// then.
     pub fn deliver(&mut self, alloc: Global, bytes: &[u8]) -> Result<Vec<u8>, OutOfMemory>
         ensures reply { IfOk result (λ reply. IsHonestReply (driver_in self.old) (sent_of self.old.exchanges) bytes.now reply.items) }
         ensures kept { IfOk result (λ reply. self.new ≡ after_reply self.old bytes.now reply.items self.new.memory) }
         ensures paired { IfOk result (λ reply. HoldsMemory self.new) }
+        ensures lived { IfOk result (λ reply. HasLived self.new) }
         ensures refused { IfOk result (λ reply. (reason : ℕ) → reply.items ≡ text (Refuse reason) → ReplyAlike self.new self.old) }
+        ensures untouched { IfOk result (λ reply. (reason : ℕ) → reply.items ≡ text (Refuse reason) → self.new.memory ≡ self.old.memory) }
         ensures err { OnErr result (self.new ≡ lost self.old) }
         ensures held { IfOk result (λ reply. is_some self.old.memory ≡ true) }
     {
         let Some(mut state) = self.state.take() else {
-            return Err(OutOfMemory::unmet());
+            return Err(wanting(self.wanted));
         };
         let reply = reply_to(alloc, &self.program, &self.plan, &mut state, bytes);
         match recorded(alloc, &mut self.exchanges, bytes, reply) {
@@ -144,7 +163,10 @@ impl UserHalf {
                 put(&mut self.state, Some(state));
                 Ok(reply)
             }
-            Err(error) => given_up(error, state),
+            Err(error) => {
+                self.wanted = Some(error);
+                given_up(error, state)
+            }
         }
     }
 
@@ -161,6 +183,7 @@ impl UserHalf {
     pub fn memory(&self) -> Option<&UserMemory>
         ensures there { option_copied result ≡ self.now.memory }
         ensures paired { IfSome (option_copied result) (λ u. Paired (memory_of self.now) u.region.contents (pairs_of u.pairs)) }
+        ensures lived { IfSome (option_copied result) (IsLived (lived_in self.now)) }
     {
         match &self.state {
             Some(state) => {
@@ -183,10 +206,11 @@ impl UserHalf {
         }
     }
 
-    /// How many places of that memory are used, and how many there are, while memory wasn't wanting.
+    /// How many places of that memory are used, and how many there are, while memory wasn't wanting: after the births of the
+    /// globals, and then the deaths and births of each message that wasn't refused.
     pub fn layout(&self) -> Option<(u64, u64)>
         ensures there { result ≡ option_map (λ u. places_of u.region.contents.lives) self.now.memory }
-        ensures laid { IfSome result (IsLayoutOf (memory_of self.now)) }
+        ensures laid { IfSome result (λ places. places ≡ places_of (lived_in self.now).lives) }
     {
         match self.memory() {
             Some(memory) => Some(memory.region().layout()),

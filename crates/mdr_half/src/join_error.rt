@@ -1,8 +1,9 @@
 // Why two trees aren't the halves of one.
 
 ghost use Rattle.std.specs.Prelude.{◌≡◌};
-ghost use Rattle.mdr_half.specs.declared.join_error.JoinError.TheVariants.{OutOfMemory};
+ghost use Rattle.mdr_half.specs.declared.join_error.JoinError.TheVariants.{OutOfMemory as Wanting};
 
+use mdr_core::OutOfMemory;
 use std::alloc::{AllocError, AllocFailed};
 use thiserror::Error;
 
@@ -18,7 +19,7 @@ pub enum JoinError {
 }
 
 impl From<AllocError> for JoinError {
-    ghost from_gives = { λ _ e. e ≡ OutOfMemory };
+    ghost from_gives = { λ _ e. e ≡ Wanting };
 
     fn from(_e: AllocError) -> JoinError {
         JoinError::OutOfMemory
@@ -26,9 +27,17 @@ impl From<AllocError> for JoinError {
 }
 
 impl<T: Drop> From<AllocFailed<T>> for JoinError {
-    ghost from_gives = { λ _ e. e ≡ OutOfMemory };
+    ghost from_gives = { λ _ e. e ≡ Wanting };
 
     fn from(_e: AllocFailed<T>) -> JoinError {
+        JoinError::OutOfMemory
+    }
+}
+
+impl From<OutOfMemory> for JoinError {
+    ghost from_gives = { λ _ e. e ≡ Wanting };
+
+    fn from(_e: OutOfMemory) -> JoinError {
         JoinError::OutOfMemory
     }
 }

@@ -99,8 +99,9 @@ fn whole_of(alloc: Global, a: &ItemWhat, b: &ItemWhat) -> Result<Whole, OutOfMem
     Ok(whole_by(part_of(a), part_of(b), is_alike))
 }
 
-fn whole_item(kernel: Item, user: Item, whole: Whole) -> Result<Item, JoinError>
-    ensures { JoinsItem result (whole_item kernel user whole) }
+/// The item, or the line of the user half's where neither is the whole one.
+fn whole_item(kernel: Item, user: Item, whole: Whole) -> Result<Item, u32>
+    ensures { result ≡ whole_item kernel user whole }
 {
     match whole {
         Whole::First => {
@@ -115,7 +116,7 @@ fn whole_item(kernel: Item, user: Item, whole: Whole) -> Result<Item, JoinError>
             let line = user.place.line;
             drop(kernel);
             drop(user);
-            Err(JoinError::Differ(line))
+            Err(line)
         }
     }
 }
@@ -124,11 +125,14 @@ fn joined_item(alloc: Global, kernel: Item, user: Item) -> Result<Item, JoinErro
     ensures { JoinsItem result (joined_item kernel user) }
 {
     match whole_of(alloc, &kernel.what, &user.what) {
-        Ok(whole) => whole_item(kernel, user, whole),
-        Err(_) => {
+        Ok(whole) => match whole_item(kernel, user, whole) {
+            Ok(item) => Ok(item),
+            Err(line) => Err(JoinError::Differ(line)),
+        },
+        Err(error) => {
             drop(kernel);
             drop(user);
-            Err(JoinError::OutOfMemory)
+            Err(JoinError::from(error))
         }
     }
 }

@@ -1,7 +1,11 @@
 // The other half of the driver, behind messages.
 
-use mdr_core::Items;
-use std::alloc::Global;
+ghost use Rattle.std.specs.Prelude.{◌≡◌};
+ghost use Rattle.mdr_outside.specs.declared.far.DeliverAnswer.TheVariants.{OutOfMemory as NoDelivery};
+ghost use Rattle.mdr_outside.specs.declared.far.LoadAnswer.TheVariants.{OutOfMemory as NoLoad};
+
+use mdr_core::{Items, OutOfMemory};
+use std::alloc::{AllocError, Global};
 
 /// What the far side answers to the texts that it is to load.
 #[derive(Clone, Copy, Debug, PartialEq, Eq)]
@@ -23,6 +27,38 @@ pub enum DeliverAnswer {
     /// It didn't answer.
     Failed,
     OutOfMemory,
+}
+
+impl From<AllocError> for LoadAnswer {
+    ghost from_gives = { λ _ a. a ≡ NoLoad };
+
+    fn from(_e: AllocError) -> LoadAnswer {
+        LoadAnswer::OutOfMemory
+    }
+}
+
+impl From<OutOfMemory> for LoadAnswer {
+    ghost from_gives = { λ _ a. a ≡ NoLoad };
+
+    fn from(_e: OutOfMemory) -> LoadAnswer {
+        LoadAnswer::OutOfMemory
+    }
+}
+
+impl From<AllocError> for DeliverAnswer {
+    ghost from_gives = { λ _ a. a ≡ NoDelivery };
+
+    fn from(_e: AllocError) -> DeliverAnswer {
+        DeliverAnswer::OutOfMemory
+    }
+}
+
+impl From<OutOfMemory> for DeliverAnswer {
+    ghost from_gives = { λ _ a. a ≡ NoDelivery };
+
+    fn from(_e: OutOfMemory) -> DeliverAnswer {
+        DeliverAnswer::OutOfMemory
+    }
 }
 
 /// A load: the two texts, and the answer.

@@ -119,10 +119,11 @@ impl Far for LyingFar {
         self.exchanges = Items::new(alloc);
         self.loaded = None;
         if self.load == LoadAnswer::OutOfMemory {
-            return LoadAnswer::OutOfMemory;
+            return self.load;
         }
-        let Ok(loaded) = load_of(alloc, user, plan, self.load) else {
-            return LoadAnswer::OutOfMemory;
+        let loaded = match load_of(alloc, user, plan, self.load) {
+            Ok(loaded) => loaded,
+            Err(error) => return LoadAnswer::from(error),
         };
         self.loaded = Some(loaded);
         if self.load == LoadAnswer::Failed {
@@ -136,11 +137,12 @@ impl Far for LyingFar {
         ensures faults_later { self.old.faults ≤ self.new.faults }
     {
         self.calls = self.calls.and_send(bytes);
-        let Ok(reply) = self.next_reply(alloc) else {
-            return DeliverAnswer::OutOfMemory;
+        let reply = match self.next_reply(alloc) {
+            Ok(reply) => reply,
+            Err(error) => return DeliverAnswer::from(error),
         };
-        if keep(alloc, &mut self.exchanges, bytes, &reply).is_err() {
-            return DeliverAnswer::OutOfMemory;
+        if let Err(error) = keep(alloc, &mut self.exchanges, bytes, &reply) {
+            return DeliverAnswer::from(error);
         }
         self.given = self.given.saturating_add(1);
         if let DeliverAnswer::Failed = &reply {

@@ -87,7 +87,7 @@ impl MapShelf {
         }
         match Items::from_slice(alloc, bytes) {
             Ok(copy) => ReadAnswer::Ok(copy),
-            Err(_) => ReadAnswer::OutOfMemory,
+            Err(error) => ReadAnswer::from(error),
         }
     }
 
@@ -123,7 +123,7 @@ impl MapShelf {
                 self.calls.count();
                 WriteAnswer::Ok
             }
-            Err(_) => WriteAnswer::OutOfMemory,
+            Err(error) => WriteAnswer::from(error),
         }
     }
 }

@@ -1,7 +1,11 @@
 // Where named files lie.
 
+ghost use Rattle.std.specs.Prelude.{◌≡◌};
+ghost use Rattle.mdr_outside.specs.declared.shelf.ReadAnswer.TheVariants.{OutOfMemory as NoRead};
+ghost use Rattle.mdr_outside.specs.declared.shelf.WriteAnswer.TheVariants.{OutOfMemory as NoWrite};
+
 use mdr_core::Items;
-use std::alloc::Global;
+use std::alloc::{AllocError, Global};
 
 /// What a shelf answers to a read.
 #[derive(Drop)]
@@ -25,6 +29,22 @@ pub enum WriteAnswer {
     /// The shelf couldn't write.
     Failed,
     OutOfMemory,
+}
+
+impl From<AllocError> for ReadAnswer {
+    ghost from_gives = { λ _ a. a ≡ NoRead };
+
+    fn from(_e: AllocError) -> ReadAnswer {
+        ReadAnswer::OutOfMemory
+    }
+}
+
+impl From<AllocError> for WriteAnswer {
+    ghost from_gives = { λ _ a. a ≡ NoWrite };
+
+    fn from(_e: AllocError) -> WriteAnswer {
+        WriteAnswer::OutOfMemory
+    }
 }
 
 /// A shelf holds named files. `files` tells them as a function of the name, or doesn't tell them.

@@ -5,25 +5,12 @@ ghost use Rattle.std.specs.List.{prefix_len};
 ghost use Rattle.std.specs.Option.{option_map};
 ghost use Rattle.mdr_syntax.specs.Bytes.{is_name_byte};
 ghost use Rattle.mdr_plan.specs.Front.{strip, word_at};
-ghost use Rattle.mdr_plan.specs.Gives.{Gives};
-
-use crate::unread::Unread;
 
 /// What stands behind these bytes, where the text begins with them.
 pub fn strip<'a>(bytes: &'a [u8], front: &[u8]) -> Option<&'a [u8]>
     ensures { option_map (λ r. r.now) result ≡ strip front.now bytes.now }
 {
     bytes.strip_prefix(front)
-}
-
-/// What stands behind these bytes, with which the text must begin.
-pub fn expect<'a>(bytes: &'a [u8], front: &[u8]) -> Result<&'a [u8], Unread>
-    ensures { Gives (λ r. r.now) result (strip front.now bytes.now) }
-{
-    match strip(bytes, front) {
-        Some(rest) => Ok(rest),
-        None => Err(Unread::Refused),
-    }
 }
 
 /// Whether the byte may stand in a name.

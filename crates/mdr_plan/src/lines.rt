@@ -10,7 +10,7 @@ ghost use Rattle.mdr_plan.specs.LineReading.{behind_number, or_else, place_of, h
 ghost use Rattle.mdr_plan.specs.Naming.{is_new, struct_number};
 ghost use Rattle.mdr_core.specs.TypeText.{is_before};
 
-use crate::front::{expect, strip, word_at};
+use crate::front::{strip, word_at};
 use crate::keys::{is_after, is_there, key_of};
 use crate::line::{Line, Stage};
 use crate::names::is_new;
@@ -101,7 +101,10 @@ fn expect_number(alloc: Global, bytes: &[u8], k: usize) -> Result<&[u8], Unread>
     ensures { Gives (λ r. r.now) result (strip (decimal k) bytes.now) }
 {
     let digits = k.to_string(alloc)?;
-    expect(bytes, digits.as_bytes())
+    match strip(bytes, digits.as_bytes()) {
+        Some(rest) => Ok(rest),
+        None => Err(Unread::Refused),
+    }
 }
 
 #[tactic(auto, unfolding(crate::specs::LineReading::behind_number))]
@@ -113,7 +116,9 @@ fn behind_number<'a>(
 ) -> Result<&'a [u8], Unread>
     ensures { Gives (λ r. r.now) result (behind_number word.now k bytes.now) }
 {
-    let rest = expect(bytes, word)?;
+    let Some(rest) = strip(bytes, word) else {
+        return Err(Unread::Refused);
+    };
     expect_number(alloc, rest, k)
 }
 
@@ -182,7 +187,9 @@ fn takes_struct(reader: &Reader, name: &[u8]) -> bool
 fn struct_at(alloc: Global, reader: &Reader, text: &[u8]) -> Result<Line, Unread>
     ensures { Gives (λ l. l) result (struct_at reader.now text.now) }
 {
-    let name = expect(text, b"struct ")?;
+    let Some(name) = strip(text, b"struct ") else {
+        return Err(Unread::Refused);
+    };
     if !takes_struct(reader, name) {
         return Err(Unread::Refused);
     }
@@ -229,7 +236,9 @@ fn type_line_at(alloc: Global, reader: &Reader, bytes: &[u8]) -> Result<Line, Un
     ensures { Gives (λ l. l) result (type_line_at reader.now bytes.now) }
 {
     let rest = behind_number(alloc, bytes, b"type ", reader.plan.types.len())?;
-    let text = expect(rest, b" ")?;
+    let Some(text) = strip(rest, b" ") else {
+        return Err(Unread::Refused);
+    };
     type_piece_at(alloc, reader, text)
 }
 
@@ -264,7 +273,9 @@ fn function_line_at(alloc: Global, reader: &Reader, bytes: &[u8]) -> Result<Line
     ensures { Gives (λ l. l) result (function_line_at reader.now bytes.now) }
 {
     let rest = behind_number(alloc, bytes, b"function ", reader.plan.names.len())?;
-    let text = expect(rest, b" ")?;
+    let Some(text) = strip(rest, b" ") else {
+        return Err(Unread::Refused);
+    };
     let (name, rest) = word_at(text);
     let Some((half, is_root)) = place_of(rest) else {
         return Err(Unread::Refused);

@@ -1,8 +1,8 @@
 // Reading a plan's text.
 
-ghost use Rattle.std.specs.Prelude.{◌≡◌, ◌≤◌, ◌<◌, ◌+◌, ◌∷◌, length, take, drop, MatchOption, false};
+ghost use Rattle.std.specs.Prelude.{◌≡◌, ◌≤◌, ◌<◌, ◌+◌, ◌∷◌, length, take, drop, MatchOption, true, false};
 ghost use Rattle.std.specs.List.{prefix_len};
-ghost use Rattle.mdr_plan.specs.Texts.{in_line, IsOneLine, Plans, Progress, Ends, is_done};
+ghost use Rattle.mdr_plan.specs.Texts.{in_line, IsOneLine, Plans, Progress, is_done};
 ghost use Rattle.mdr_plan.specs.declared.plan_error.PlanError.TheVariants.{Line as at_line};
 
 use crate::line::Stage;
@@ -41,13 +41,13 @@ fn is_done(stage: Stage) -> bool
 }
 
 /// The plan, where its last line was read.
-fn finish(reader: Reader, number: u32) -> Result<Plan, PlanError>
-    ensures { Ends reader number result }
+fn finish(reader: Reader) -> Option<Plan>
+    ensures { MatchOption result (is_done reader.stage ≡ false) (λ plan. (is_done reader.stage ≡ true) × (plan ≡ reader.plan)) }
 {
     if is_done(reader.stage) {
-        Ok(reader.plan)
+        Some(reader.plan)
     } else {
-        Err(PlanError::Line(number, PlanKind::Form))
+        None
     }
 }
 
@@ -70,7 +70,10 @@ fn read_lines(alloc: Global, bytes: &[u8]) -> Result<Plan, PlanError>
         number += 1;
         rest = after;
     }
-    finish(reader, number)
+    match finish(reader) {
+        Some(plan) => Ok(plan),
+        None => Err(PlanError::Line(number, PlanKind::Form)),
+    }
 }
 
 /// The plan of a text, or the number of the first line that may not stand there, and why. A text of 2^32 - 1 bytes or

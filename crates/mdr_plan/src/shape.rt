@@ -7,7 +7,7 @@ ghost use Rattle.mdr_plan.specs.LineReading.{or_else};
 ghost use Rattle.mdr_plan.specs.ShapeReading.{past_number, number_shape, type_shape, function_shape, field_shape, key_shape, word_shape, stub_shape, plain_shape, shape_at};
 ghost use Rattle.mdr_plan.specs.declared.shape.Shape.TheVariants as shape_is;
 
-use crate::front::{expect, strip, word_at};
+use crate::front::{strip, word_at};
 use crate::lines::place_of;
 use crate::names::is_name;
 use crate::number::is_number;
@@ -55,7 +55,9 @@ fn type_shape(alloc: Global, bytes: &[u8]) -> Result<Shape, Unread>
     let Some(rest) = past_number(bytes, b"type ") else {
         return Err(Unread::Refused);
     };
-    let text = expect(rest, b" ")?;
+    let Some(text) = strip(rest, b" ") else {
+        return Err(Unread::Refused);
+    };
     type_of_any(alloc, text)?;
     Ok(Shape::Type)
 }

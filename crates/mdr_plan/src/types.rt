@@ -7,7 +7,7 @@ ghost use Rattle.mdr_plan.specs.TypeTexts.{is_result};
 ghost use Rattle.mdr_plan.specs.Naming.{any_struct, struct_number, naming};
 ghost use Rattle.mdr_plan.specs.TypeReading.{behind, stars, plain_at, struct_at, typed_by, fun_by, signature_by, params_by, others_by, more_by, type_at, more_at, type_of, pointer_of, when, is_empty};
 
-use crate::front::{expect, strip, word_at};
+use crate::front::{strip, word_at};
 use crate::names::number_of_struct;
 use crate::unread::Unread;
 use crate::words::{is_pointer, is_result, is_scalar, plain_of};
@@ -65,7 +65,9 @@ fn struct_at<'a>(
 ) -> Result<(Ty, &'a [u8]), Unread>
     ensures { Gives (λ x. (x.0, x.1.now)) result (struct_at (naming any names.now) bytes.now) }
 {
-    let rest = expect(bytes, b" ")?;
+    let Some(rest) = strip(bytes, b" ") else {
+        return Err(Unread::Refused);
+    };
     let (name, rest) = word_at(rest);
     match number_of_struct(any, names, name) {
         Some(s) => Ok(behind(alloc, Ty::Struct(s), rest)?),
@@ -107,7 +109,12 @@ fn others_at<'a>(
 {
     match strip(bytes, b")") {
         Some(rest) => Ok((types, rest)),
-        None => more_at(alloc, any, names, types, expect(bytes, b",")?, depth),
+        None => {
+            let Some(rest) = strip(bytes, b",") else {
+                return Err(Unread::Refused);
+            };
+            more_at(alloc, any, names, types, rest, depth)
+        }
     }
 }
 
@@ -183,7 +190,10 @@ fn signature_at<'a>(
     ensures { Gives (λ x. (x.0, x.1.now)) result (signature_by (λ bs. type_at depth (naming any names.now) bs) (λ ts bs. more_at depth (naming any names.now) ts bs) bytes.now) }
 {
     let (ty, rest) = type_at(alloc, any, names, bytes, depth)?;
-    behind_result(alloc, any, names, ty, expect(rest, b";")?, depth)
+    let Some(rest) = strip(rest, b";") else {
+        return Err(Unread::Refused);
+    };
+    behind_result(alloc, any, names, ty, rest, depth)
 }
 
 #[cycle(types)]
@@ -197,7 +207,9 @@ fn fun_at<'a>(
 ) -> Result<(Ty, &'a [u8]), Unread>
     ensures { Gives (λ x. (x.0, x.1.now)) result (fun_by (λ bs. type_at depth (naming any names.now) bs) (λ ts bs. more_at depth (naming any names.now) ts bs) bytes.now) }
 {
-    let rest = expect(bytes, b"(")?;
+    let Some(rest) = strip(bytes, b"(") else {
+        return Err(Unread::Refused);
+    };
     let (types, rest) = signature_at(alloc, any, names, rest, depth)?;
     Ok(behind(alloc, Ty::Fun(types), rest)?)
 }

@@ -95,13 +95,13 @@ fn bind_call(
 }
 
 #[tactic(auto, unfolding(crate::specs::Binding::show_bound))]
-fn bind_show(program: &Program, name: &[u8]) -> Result<Command, Unbound>
+fn bind_show(program: &Program, name: &[u8]) -> Result<Command, ScriptKind>
     requires { HasFewNumbers program.now }
-    ensures { Binds result (show_bound program.now name.now) }
+    ensures { result ≡ show_bound program.now name.now }
 {
     match global_number(program.globals.as_slice(), name) {
         Some(number) => Ok(Command::Show(small(number))),
-        None => Err(Unbound::Kind(ScriptKind::NoGlobal)),
+        None => Err(ScriptKind::NoGlobal),
     }
 }
 
@@ -112,7 +112,10 @@ fn bind_command(alloc: Global, program: &Program, what: &LineWhat) -> Result<Com
     match what {
         LineWhat::Call(name, args) => bind_call(alloc, program, name.as_slice(), args.as_slice()),
         LineWhat::Idle(ticks) => Ok(Command::Idle(*ticks)),
-        LineWhat::Show(name) => bind_show(program, name.as_slice()),
+        LineWhat::Show(name) => match bind_show(program, name.as_slice()) {
+            Ok(command) => Ok(command),
+            Err(kind) => Err(Unbound::Kind(kind)),
+        },
     }
 }
 

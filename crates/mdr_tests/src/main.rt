@@ -10,6 +10,8 @@ mod hex;
 #[cfg(test)]
 mod items;
 #[cfg(test)]
+mod memory;
+#[cfg(test)]
 mod messages;
 #[cfg(test)]
 mod outside;

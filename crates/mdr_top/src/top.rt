@@ -72,7 +72,7 @@ fn printed<S: Shelf, O: Sink, F: Far>(
                 Status::WriteFault
             }
         }
-        Err(_) => Status::OutOfMemory,
+        Err(error) => Status::from(error),
     }
 }
 

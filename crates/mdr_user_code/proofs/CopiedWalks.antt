@@ -7,25 +7,25 @@ use Rattle.mdr_meaning.specs.Walk.{Walked, on_access, walk, walked}
 use Rattle.mdr_model.specs.declared.memory.Cell.{Cell}
 use Rattle.mdr_model.specs.Memory.{Memory}
 use Rattle.mdr_split.specs.User.{guarded}
-use Rattle.mdr_user_memory.specs.Copied.{Copied, copied, copied_if, copy_accesses}
+use Rattle.mdr_user_memory.specs.Copied.{Copied, Past, copied, copied_if, copy_accesses}
 
-abbrev pub copied_walked : Memory → List Cell → Walked Memory → Walked Copied
-copied_walked agreed view w = walked w.reached (copied agreed view w.memory) w.left
+abbrev pub copied_walked : Past → Memory → List Cell → Walked Memory → Walked Copied
+copied_walked past agreed view w = walked w.reached (copied past agreed view w.memory) w.left
 
-module _ (agreed : Memory) (view : List Cell) where
+module _ (past : Past) (agreed : Memory) (view : List Cell) where
   -- an access that gives something, or stops
   accessed : {A : Type 0} (x : Result A StopKind) (at : At) (m : Memory) (n : ℕ) (go : A → Walked Copied) (walks : A → Walked Memory)
-      → ((y : A) → go y ≡ copied_walked agreed view (walks y)) → on_access x at (copied agreed view m) n go ≡ copied_walked agreed view (on_access x at m n walks)
+      → ((y : A) → go y ≡ copied_walked past agreed view (walks y)) → on_access x at (copied past agreed view m) n go ≡ copied_walked past agreed view (on_access x at m n walks)
   accessed (Ok y) at m n go walks each = each y
   accessed (Err kind) at m n go walks each = refl
 
   -- one that leaves another memory
   stored : (x : Result Memory StopKind) (at : At) (m : Memory) (n : ℕ) (go : Copied → Walked Copied) (walks : Memory → Walked Memory)
-      → ((y : Memory) → go (copied agreed view y) ≡ copied_walked agreed view (walks y)) → on_access (copied_if agreed view x) at (copied agreed view m) n go ≡ copied_walked agreed view (on_access x at m n walks)
+      → ((y : Memory) → go (copied past agreed view y) ≡ copied_walked past agreed view (walks y)) → on_access (copied_if past agreed view x) at (copied past agreed view m) n go ≡ copied_walked past agreed view (on_access x at m n walks)
   stored (Ok y) at m n go walks each = each y
   stored (Err kind) at m n go walks each = refl
 
-  pub walks : (n : ℕ) (t : Tree) (m : Memory) → walk copy_accesses n t (copied agreed view m) ≡ copied_walked agreed view (walk (guarded view) n t m)
+  pub walks : (n : ℕ) (t : Tree) (m : Memory) → walk copy_accesses n t (copied past agreed view m) ≡ copied_walked past agreed view (walk (guarded view) n t m)
   unfolding walk
   walks n Tree.Idle m = refl
   walks n (Tree.Waits k) m = refl

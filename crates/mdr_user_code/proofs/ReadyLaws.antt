@@ -32,7 +32,9 @@ use Rattle.mdr_model.specs.declared.message.Told.{Told}
 use Rattle.mdr_model.specs.Memory.{Memory}
 use Rattle.mdr_split.specs.Services.{are_different, are_given_by, are_new, is_new, leaving, results_fit, serials_of}
 use Rattle.mdr_split.specs.User.{objects_fit}
-use Rattle.mdr_user_memory.specs.Kept.{Kept}
+use Rattle.mdr_user_memory.specs.Kept.{IsLived, Kept, LivesTo, past_in}
+use Rattle.mdr_user_memory.specs.Lived.{lived_by}
+use Rattle.mdr_user_memory.proofs.LivedLaws.{lived_same}
 use Rattle.mdr_watched.specs.Driver.{Driver, driver_of, is_user}
 use Rattle.mdr_user_code.specs.declared.opening.Opening.TheVariants as opening
 use Rattle.mdr_user_code.specs.declared.opening.Turn.{Turn}
@@ -45,6 +47,7 @@ use Rattle.mdr_user_memory.specs.Copied.{Copied, copy_accesses}
 use Rattle.mdr_user_code.specs.Opening.{answer_by, answer_copy, answered_by, back_by, call_sight, downcall, func_for, is_answered, is_idle, may_enter, opening_for, opening_of, renewed, tree_for, where_so}
 use Rattle.mdr_user_code.specs.Replying.{IsResumed, IsStarted, Prepared, Proceeds, Resumed, RunReplies}
 use Rattle.mdr_user_code.specs.Standing.{IsFit, Opens, asked_of, held_in, opens_by}
+use Rattle.mdr_user_code.specs.Tidings.{deaths_in, news_in}
 use Rattle.mdr_user_code.proofs.RunLaws.{cut_child}
 use Rattle.mdr_user_code.proofs.Sides.{user_body, user_is}
 
@@ -88,8 +91,9 @@ prepared_answer d s s' m results passed deaths news started same given is =
 
 -- user code goes on, behind a state that holds the message's copy
 pub proceeds : (d : Driver) (s s1 s2 s' : State) (k : Kept) (m : Message) (turn : Turn) (reply : Message) → Prepared d s m s1 → s2 ≡ record s1 { memory = k; entered = turn.entered } → k.agreed ≡ turn.sight.copy
-    → RunReplies d (held_in d s2) s2.func s2.entered turn.rest turn.sight.view s2.memory.agreed reply s' → Proceeds d s m turn reply s'
-proceeds d s s1 s2 s' k m turn reply p same copy run =
+    → RunReplies d (held_in d s2) s2.func s2.entered turn.rest turn.sight.view s2.memory.agreed reply s' → LivesTo (lived_by d.program (deaths_in m) (news_in m)) s1.memory k
+    → past_in s'.memory ≡ past_in s2.memory → Proceeds d s m turn reply s'
+proceeds d s s1 s2 s' k m turn reply p same copy run lived past =
     let q : RunReplies d (held_in d s1) s1.func turn.entered turn.rest turn.sight.view k.agreed reply s' =
     subst (λ (x : State). RunReplies d (held_in d x) x.func x.entered turn.rest turn.sight.view x.memory.agreed reply s') same run in
     let r : RunReplies d (held_in d s1) (func_for s m) turn.entered turn.rest turn.sight.view turn.sight.copy reply s' =
@@ -99,6 +103,8 @@ proceeds d s s1 s2 s' k m turn reply p same copy run =
       kept = r.kept;
       opens = r.opens;
       by = λ fuel more fits. r.by fuel more (tree_for d fuel s m) fits (p.holds fuel (turn.rest + more) fits);
+      lived = λ l h.
+          lived_same s'.memory k (past ∙ ap (λ (x : State). past_in x.memory) same) (lived l (subst (λ (x : Kept). IsLived l x) (sym p.memory) h));
     }
 
 -- a machine on the code of the user half

@@ -37,7 +37,7 @@ use Rattle.mdr_user_memory.proofs.WithinLaws.{changes_give, walk_left, within_fi
 use Rattle.mdr_watched.specs.Driver.{Driver}
 use Rattle.mdr_user_code.specs.declared.state.Awaits.{Awaits}
 use Rattle.mdr_user_code.specs.declared.state.State.{State}
-use Rattle.mdr_user_memory.specs.Copied.{Copied, copied, copy_accesses}
+use Rattle.mdr_user_memory.specs.Copied.{Copied, Past, copied, copy_accesses}
 use Rattle.mdr_user_code.specs.Replying.{IsSettled, RunReplies, awaits_as, told_as}
 use Rattle.mdr_user_code.specs.Standing.{cut_delivered, held_in, kept_by, opens_by, replies_so, user_of, work_by}
 use Rattle.mdr_user_code.proofs.CopiedWalks.{copied_walked, walks}
@@ -92,7 +92,7 @@ settled s rest copy c e = record s { memory = record s.memory { agreed = put_run
 
 -- ---- a run
 
-module _ (d : Driver) (h : Held) (s : State) (view : List Cell) (rest : ℕ) (copy : Memory) (c : Copied) where
+module _ (d : Driver) (h : Held) (s : State) (past : Past) (view : List Cell) (rest : ℕ) (copy : Memory) (c : Copied) where
   abbrev left : ℕ
   left = rest - s.machine.used
 
@@ -106,25 +106,25 @@ module _ (d : Driver) (h : Held) (s : State) (view : List Cell) (rest : ℕ) (co
   cut_walked r w = walked (cut_reached (w.left + r) w.reached) w.memory w.left
 
   -- the walk of a tree that the held work is
-  walk_is : (fuel more : ℕ) (t : Tree) (e : Came) → rest + more ≤ fuel → tree d.user fuel h (rest + more) ≡ cut (rest + more) t → RunsTo copy_accesses d.user h (copied copy view copy) rest e (held_in d s) c left
-      → copied_walked copy view (cut_walked more (reached_by t)) ≡ after copy_accesses d.user fuel e (held_in d s) c left (left + more)
+  walk_is : (fuel more : ℕ) (t : Tree) (e : Came) → rest + more ≤ fuel → tree d.user fuel h (rest + more) ≡ cut (rest + more) t → RunsTo copy_accesses d.user h (copied past copy view copy) rest e (held_in d s) c left
+      → copied_walked past copy view (cut_walked more (reached_by t)) ≡ after copy_accesses d.user fuel e (held_in d s) c left (left + more)
   walk_is fuel more t e fits same ran =
       let none : rest ≡ rest + 0 = omega arith in
       let all : left + 0 ≡ left = omega arith in
-      ap (copied_walked copy view) (sym (walk_cut (guarded view) rest more t copy))
-      ∙ sym (walks copy view rest (cut (rest + more) t) copy)
-      ∙ ap (λ (x : Tree). walk copy_accesses rest x (copied copy view copy)) (sym same)
-      ∙ ap (λ (n : ℕ). walk copy_accesses n (tree d.user fuel h (rest + more)) (copied copy view copy)) none
+      ap (copied_walked past copy view) (sym (walk_cut (guarded view) rest more t copy))
+      ∙ sym (walks past copy view rest (cut (rest + more) t) copy)
+      ∙ ap (λ (x : Tree). walk copy_accesses rest x (copied past copy view copy)) (sym same)
+      ∙ ap (λ (n : ℕ). walk copy_accesses n (tree d.user fuel h (rest + more)) (copied past copy view copy)) none
       ∙ ran.by fuel 0 more fits
       ∙ ap (λ (n : ℕ). after copy_accesses d.user fuel e (held_in d s) c n (left + more)) all
 
-  replied_at : (fuel more : ℕ) (t : Tree) (e : Came) → rest + more ≤ fuel → tree d.user fuel h (rest + more) ≡ cut (rest + more) t → RunsTo copy_accesses d.user h (copied copy view copy) rest e (held_in d s) c left
+  replied_at : (fuel more : ℕ) (t : Tree) (e : Came) → rest + more ≤ fuel → tree d.user fuel h (rest + more) ≡ cut (rest + more) t → RunsTo copy_accesses d.user h (copied past copy view copy) rest e (held_in d s) c left
       → cut_delivered more (replied_to s.func s.entered view rest copy (reached_by t)) ≡ answer_of more (after copy_accesses d.user fuel e (held_in d s) c left (left + more))
   replied_at fuel more t e fits same ran =
       sym (replied_cut more s.func s.entered view rest copy (reached_by t).memory (reached_by t).left (reached_by t).reached)
       ∙ ap (answer_of more) (walk_is fuel more t e fits same ran)
 
-  replies : (e : Event) → RanTo copy_accesses d.user h (copied copy view copy) rest e (held_in d s) c left → (fuel more : ℕ) (t : Tree) → rest + more ≤ fuel → tree d.user fuel h (rest + more) ≡ cut (rest + more) t
+  replies : (e : Event) → RanTo copy_accesses d.user h (copied past copy view copy) rest e (held_in d s) c left → (fuel more : ℕ) (t : Tree) → rest + more ≤ fuel → tree d.user fuel h (rest + more) ≡ cut (rest + more) t
       → cut_delivered more (replied_to s.func s.entered view rest copy (reached_by t)) ≡ cut_delivered more (replies_so d fuel (told_as (rest - left) c.memory (changes c.view copy c.memory) e) (settled s rest copy c e))
   unfolding replied walk
   replies (event.Done v) ran fuel more t fits same = replied_at fuel more t (came.Ended (wire_of v)) fits same ran
@@ -161,11 +161,11 @@ module _ (d : Driver) (h : Held) (s : State) (view : List Cell) (rest : ℕ) (co
   opens_behind (event.Cross call) o = o
   opens_behind (event.TicksOut at) o = tt
 
-  pub run_replies : (e : Event) (reply : Message) → IsReady h → s.machine.used ≤ rest → RanTo copy_accesses d.user h (copied copy view copy) rest e (held_in d s) c left → reply ≡ told_as s.machine.used c.memory (changes c.view copy c.memory) e
+  pub run_replies : (e : Event) (reply : Message) → IsReady h → s.machine.used ≤ rest → RanTo copy_accesses d.user h (copied past copy view copy) rest e (held_in d s) c left → reply ≡ told_as s.machine.used c.memory (changes c.view copy c.memory) e
       → RunReplies d h s.func s.entered rest view copy reply (settled s rest copy c e)
   run_replies e reply ready few ran is = record {
     kept = kept_is e;
-    opens = opens_behind e (ran_leaves copy_accesses d.user h (held_in d s) (copied copy view copy) c rest e left ready ran);
+    opens = opens_behind e (ran_leaves copy_accesses d.user h (held_in d s) (copied past copy view copy) c rest e left ready ran);
     by = λ fuel more t fits same.
         let back : rest - left ≡ s.machine.used = omega (arith, few) in
         replies e ran fuel more t fits same
@@ -175,16 +175,16 @@ module _ (d : Driver) (h : Held) (s : State) (view : List Cell) (rest : ℕ) (co
 
 -- ---- what a run leaves of memory
 
-module _ (side : Side) (h h' : Held) (copy : Memory) (view : List Cell) (c : Copied) (rest left : ℕ) (rises : SerialsRise copy) where
-  begun : IsLeft copy view (copied copy view copy)
-  begun = record { copy = refl; cells = refl; within = within_first view copy rises }
+module _ (side : Side) (h h' : Held) (past : Past) (copy : Memory) (view : List Cell) (c : Copied) (rest left : ℕ) (rises : SerialsRise copy) where
+  begun : IsLeft past copy view (copied past copy view copy)
+  begun = record { lived = refl; copy = refl; cells = refl; within = within_first view copy rises }
 
-  left_after : (x : Came) → RunsTo copy_accesses side h (copied copy view copy) rest x h' c left → IsLeft copy view (after copy_accesses side rest x h' c (left + 0) (left + 0)).memory
+  left_after : (x : Came) → RunsTo copy_accesses side h (copied past copy view copy) rest x h' c left → IsLeft past copy view (after copy_accesses side rest x h' c (left + 0) (left + 0)).memory
   left_after x ran =
-      subst (IsLeft copy view) (ap (λ (w : Walked Copied). w.memory) (ran.by rest 0 0 (omega arith)))
-      (walk_left copy view (rest + 0) (tree side rest h (rest + 0)) (copied copy view copy) begun)
+      subst (IsLeft past copy view) (ap (λ (w : Walked Copied). w.memory) (ran.by rest 0 0 (omega arith)))
+      (walk_left past copy view (rest + 0) (tree side rest h (rest + 0)) (copied past copy view copy) begun)
 
-  pub left_of_run : (e : Event) → RanTo copy_accesses side h (copied copy view copy) rest e h' c left → IsLeft copy view c
+  pub left_of_run : (e : Event) → RanTo copy_accesses side h (copied past copy view copy) rest e h' c left → IsLeft past copy view c
   unfolding walk
   left_of_run (event.Done v) ran = left_after (came.Ended (wire_of v)) ran
   left_of_run (event.Stop kind at) ran = left_after (came.Stopped kind at) ran
@@ -193,12 +193,12 @@ module _ (side : Side) (h h' : Held) (copy : Memory) (view : List Cell) (c : Cop
   left_of_run (event.TicksOut at) ran =
       let w = ran.2.by rest (left + 0) in
       let none : left + 0 ≡ 0 = omega (arith, ran.0) in
-      subst (IsLeft copy view)
+      subst (IsLeft past copy view)
       (ap (λ (x : Tree). (walk copy_accesses (left + 0) x c).memory) w.1 ∙ ap (λ (n : ℕ). (walk copy_accesses n (Tree.Tick at h'.frame.here.depth w.0) c).memory) none) (left_after came.Goes ran.1)
 
 -- all that it left is told
-pub tells_all : (copy : Memory) (view : List Cell) (c : Copied) → SerialsRise copy → IsLeft copy view c → put_runs (changes c.view c.agreed c.memory) c.agreed ≡ c.memory
-tells_all copy view c rises l =
+pub tells_all : (past : Past) (copy : Memory) (view : List Cell) (c : Copied) → SerialsRise copy → IsLeft past copy view c → put_runs (changes c.view c.agreed c.memory) c.agreed ≡ c.memory
+tells_all past copy view c rises l =
     ap (λ (a : Memory). put_runs (changes c.view a c.memory) a) l.copy
     ∙ (ap (λ (v : List Cell). put_runs (changes v copy c.memory) copy) l.cells ∙ changes_give view copy c.memory rises l.within)
 
@@ -210,15 +210,15 @@ user_settled d fuel s s' k m rest copy c e same q =
     let agreed : s'.memory.agreed ≡ put_runs (changes c.view copy c.memory) copy = q.agreed ∙ ap (λ (a : Memory). put_runs (changes c.view a c.memory) a) same in
     λ i. record { agreed = agreed i; entered = q.entered i; work = work_by (q.awaits i) (q.func i) (q.view i) (child (bare d.user fuel (held_of d.program (q.machine i)))) }
 
-pub run_from : (d : Driver) (s s' : State) (k : Kept) (m : Machine) (view : List Cell) (rest : ℕ) (copy : Memory) (c0 c : Copied) (e : Event) (reply : Message) → IsReady (held_in d s) → c0 ≡ copied copy view copy → SerialsRise copy → m.used ≤ rest
+pub run_from : (d : Driver) (s s' : State) (k : Kept) (m : Machine) (past : Past) (view : List Cell) (rest : ℕ) (copy : Memory) (c0 c : Copied) (e : Event) (reply : Message) → IsReady (held_in d s) → c0 ≡ copied past copy view copy → SerialsRise copy → m.used ≤ rest
     → RanTo copy_accesses d.user (held_in d s) c0 rest e (held_of d.program m) c (rest - m.used) → reply ≡ told_as m.used c.memory (changes c.view c.agreed c.memory) e → IsSettled (record s { memory = k; machine = m }) rest c e s'
     → RunReplies d (held_in d s) s.func s.entered rest view copy reply s'
-run_from d s s' k m view rest copy c0 c e reply ready begun rises few ran told is =
-    let r : RanTo copy_accesses d.user (held_in d s) (copied copy view copy) rest e (held_of d.program m) c (rest - m.used) =
+run_from d s s' k m past view rest copy c0 c e reply ready begun rises few ran told is =
+    let r : RanTo copy_accesses d.user (held_in d s) (copied past copy view copy) rest e (held_of d.program m) c (rest - m.used) =
     subst (λ (x : Copied). RanTo copy_accesses d.user (held_in d s) x rest e (held_of d.program m) c (rest - m.used)) begun ran in
-    let l : IsLeft copy view c = left_of_run d.user (held_in d s) (held_of d.program m) copy view c rest (rest - m.used) rises e r in
+    let l : IsLeft past copy view c = left_of_run d.user (held_in d s) (held_of d.program m) past copy view c rest (rest - m.used) rises e r in
     let told' : reply ≡ told_as m.used c.memory (changes c.view copy c.memory) e = told ∙ ap (λ (a : Memory). told_as m.used c.memory (changes c.view a c.memory) e) l.copy in
-    let rr : RunReplies d (held_in d s) s.func s.entered rest view copy reply (settled (record s { machine = m }) rest copy c e) = run_replies d (held_in d s) (record s { machine = m }) view rest copy c e reply ready few r told' in
+    let rr : RunReplies d (held_in d s) s.func s.entered rest view copy reply (settled (record s { machine = m }) rest copy c e) = run_replies d (held_in d s) (record s { machine = m }) past view rest copy c e reply ready few r told' in
     record {
       kept = subst (λ (a : Awaits). kept_by a ≤ rest) (sym is.awaits) rr.kept;
       opens = subst (λ (a : Awaits). opens_by a (held_in d s')) (sym is.awaits) (subst (λ (x : Machine). opens_by (awaits_as (rest - m.used) e) (held_of d.program x)) (sym is.machine) rr.opens);
@@ -228,9 +228,17 @@ run_from d s s' k m view rest copy c0 c e reply ready begun rises few ran told i
     }
 
 -- the code left what it ran on, and all that it left is told
-pub run_told : (d : Driver) (s : State) (m : Machine) (view : List Cell) (rest : ℕ) (copy : Memory) (c0 c : Copied) (e : Event) → c0 ≡ copied copy view copy → SerialsRise copy
+pub run_told : (d : Driver) (s : State) (m : Machine) (past : Past) (view : List Cell) (rest : ℕ) (copy : Memory) (c0 c : Copied) (e : Event) → c0 ≡ copied past copy view copy → SerialsRise copy
     → RanTo copy_accesses d.user (held_in d s) c0 rest e (held_of d.program m) c (rest - m.used) → put_runs (changes c.view c.agreed c.memory) c.agreed ≡ c.memory
-run_told d s m view rest copy c0 c e begun rises ran =
-    let r : RanTo copy_accesses d.user (held_in d s) (copied copy view copy) rest e (held_of d.program m) c (rest - m.used) =
+run_told d s m past view rest copy c0 c e begun rises ran =
+    let r : RanTo copy_accesses d.user (held_in d s) (copied past copy view copy) rest e (held_of d.program m) c (rest - m.used) =
     subst (λ (x : Copied). RanTo copy_accesses d.user (held_in d s) x rest e (held_of d.program m) c (rest - m.used)) begun ran in
-    tells_all copy view c rises (left_of_run d.user (held_in d s) (held_of d.program m) copy view c rest (rest - m.used) rises e r)
+    tells_all past copy view c rises (left_of_run d.user (held_in d s) (held_of d.program m) past copy view c rest (rest - m.used) rises e r)
+
+-- and its births, deaths and pairs stay
+pub run_past : (d : Driver) (s : State) (m : Machine) (past : Past) (view : List Cell) (rest : ℕ) (copy : Memory) (c0 c : Copied) (e : Event) → c0 ≡ copied past copy view copy → SerialsRise copy
+    → RanTo copy_accesses d.user (held_in d s) c0 rest e (held_of d.program m) c (rest - m.used) → c.past ≡ past
+run_past d s m past view rest copy c0 c e begun rises ran =
+    let r : RanTo copy_accesses d.user (held_in d s) (copied past copy view copy) rest e (held_of d.program m) c (rest - m.used) =
+    subst (λ (x : Copied). RanTo copy_accesses d.user (held_in d s) x rest e (held_of d.program m) c (rest - m.used)) begun ran in
+    (left_of_run d.user (held_in d s) (held_of d.program m) past copy view c rest (rest - m.used) rises e r).lived

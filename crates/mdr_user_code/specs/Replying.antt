@@ -34,8 +34,11 @@ use Rattle.mdr_user_code.specs.declared.state.Awaits.TheVariants as awaits
 use Rattle.mdr_user_code.specs.declared.state.Question.{Question}
 use Rattle.mdr_user_code.specs.declared.state.State.{State}
 use Rattle.mdr_user_memory.specs.Copied.{Copied}
+use Rattle.mdr_user_memory.specs.Kept.{LivesTo, past_in}
+use Rattle.mdr_user_memory.specs.Lived.{lived_by}
 use Rattle.mdr_user_code.specs.Opening.{func_for, tree_for}
 use Rattle.mdr_user_code.specs.Standing.{Opens, cut_delivered, held_in, kept_by, replies_so}
+use Rattle.mdr_user_code.specs.Tidings.{deaths_in, news_in}
 
 -- ---- the machine is made ready
 
@@ -83,6 +86,7 @@ awaits_as left (event.Stop kind at) = awaits.Nothing
 -- the state behind an event: both halves agree on the changes that are told
 pub record IsSettled (s : State) (rest : ℕ) (c : Copied) (e : Event) (s' : State) : Type 0 where
   pub agreed : s'.memory.agreed ≡ put_runs (changes c.view c.agreed c.memory) c.agreed
+  pub past : past_in s'.memory ≡ c.past
   pub machine : s'.machine ≡ s.machine
   pub func : s'.func ≡ s.func
   pub entered : s'.entered ≡ s.entered
@@ -98,10 +102,11 @@ pub record RunReplies (d : Driver) (held : Held) (stub : ℕ) (entered : List �
   pub by : (fuel more : ℕ) (t : Tree) → rest + more ≤ fuel → tree d.user fuel held (rest + more) ≡ cut (rest + more) t
       → cut_delivered more (replied_to stub entered view rest copy (walk (guarded view) rest t copy)) ≡ cut_delivered more (replies_so d fuel reply s')
 
--- user code goes on with a message
+-- user code goes on with a message, whose deaths and births are those of the user half's own memory
 pub record Proceeds (d : Driver) (s : State) (m : Message) (turn : Turn) (reply : Message) (s' : State) : Type 0 where
   pub opens : Opens d s'
   pub kept : kept_by s'.awaits ≤ turn.rest
   pub by : (fuel more : ℕ) → turn.rest + more ≤ fuel
       → cut_delivered more (replied_to (func_for s m) turn.entered turn.sight.view turn.rest turn.sight.copy (walk (guarded turn.sight.view) turn.rest (tree_for d fuel s m) turn.sight.copy))
       ≡ cut_delivered more (replies_so d fuel reply s')
+  pub lived : LivesTo (lived_by d.program (deaths_in m) (news_in m)) s.memory s'.memory

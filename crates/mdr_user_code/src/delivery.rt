@@ -1,16 +1,19 @@
 // One message.
 
-ghost use Rattle.std.specs.Prelude.{◌≡◌, [], ◌∷◌, ◌++◌, List, Ok, IfOk, OnOk};
+ghost use Rattle.std.specs.Prelude.{◌≡◌, [], ◌∷◌, ◌++◌, List, true, Ok, IfOk, OnOk};
 ghost use Rattle.mdr_core.specs.Sound.{HasFewNumbers, IsSound};
 ghost use Rattle.mdr_model.specs.declared.message.Message.TheVariants as message_is;
 ghost use Rattle.mdr_model.specs.KernelState.{Reading};
+ghost use Rattle.mdr_model.specs.Refusals.{is_refusal};
 ghost use Rattle.mdr_split.specs.User.{user_reply};
+ghost use Rattle.mdr_user_memory.specs.Kept.{LivesTo};
+ghost use Rattle.mdr_user_memory.specs.Lived.{lived_by};
 ghost use Rattle.mdr_watched.specs.Driver.{driver_of};
 ghost use Rattle.mdr_user_code.specs.declared.opening.Opening.TheVariants as opening;
 ghost use Rattle.mdr_user_code.specs.Opening.{opening_for};
 ghost use Rattle.mdr_user_code.specs.Replying.{Proceeds};
 ghost use Rattle.mdr_user_code.specs.Standing.{Follows, IsFit, Opens, Replies, driver_in};
-ghost use Rattle.mdr_user_code.specs.Tidings.{TellsTo};
+ghost use Rattle.mdr_user_code.specs.Tidings.{TellsTo, deaths_in, news_in};
 
 use crate::first::first_memory;
 use crate::opening::{Opening, Turn, opens};
@@ -62,7 +65,8 @@ fn take(
     copy: RisingBlocks,
 ) -> Result<(), OutOfMemory>
     requires { TellsTo (driver_in scene) memory.old.agreed message.now copy }
-    ensures { OnOk result (memory.new.agreed ≡ copy) }
+    ensures copy { OnOk result (memory.new.agreed ≡ copy) }
+    ensures lived { OnOk result (LivesTo (lived_by scene.entry.program.now (deaths_in message.now) (news_in message.now)) memory.old memory.new) }
 {
     memory.take(alloc, scene.program, tidings(message), copy)?;
     Ok(())
@@ -134,7 +138,8 @@ fn reply_to(
     }
 }
 
-/// The reply to a message, which is read already. Where memory is wanting, nothing is promised of the state.
+/// The reply to a message, which is read already. One that is refused leaves the state as it was. Where memory is wanting,
+/// nothing is promised of the state.
 pub fn delivered(
     alloc: Global,
     program: &Program,
@@ -147,6 +152,7 @@ pub fn delivered(
     requires opens { Opens (driver_of program.now plan.now) state.old }
     ensures reply { IfOk result (λ r. (before : List Reading) → Follows (driver_of program.now plan.now) before state.old → r ≡ user_reply (driver_of program.now plan.now) before message.now) }
     ensures follows { OnOk result ((before : List Reading) → Follows (driver_of program.now plan.now) before state.old → Follows (driver_of program.now plan.now) (before ++ message.now ∷ []) state.new) }
+    ensures refused { IfOk result (λ r. is_refusal r ≡ true → state.new ≡ state.old) }
 {
     let scene = Scene { program, plan };
     let reply = reply_to(alloc, scene, state, message)?;

@@ -6,6 +6,7 @@ ghost use Rattle.mdr_events.specs.Going.{RanTo};
 ghost use Rattle.mdr_events.specs.Ready.{IsReady};
 ghost use Rattle.mdr_exec.specs.Holding.{held_of};
 ghost use Rattle.mdr_user_memory.specs.Copied.{copy_accesses};
+ghost use Rattle.mdr_user_memory.specs.Kept.{past_in};
 ghost use Rattle.mdr_user_code.specs.Replying.{RunReplies};
 ghost use Rattle.mdr_user_code.specs.Standing.{IsFit, driver_in, held_in};
 
@@ -53,7 +54,8 @@ pub(crate) fn run(
     requires sound { IsSound scene.program.now }
     requires fit { IsFit scene.plan.now scene.program.now }
     requires ready { IsReady (held_of scene.program.now state.old.machine) }
-    ensures { IfOk result (λ r. RunReplies (driver_in scene.entry) (held_in (driver_in scene.entry) state.old) state.old.func state.old.entered rest view state.old.memory.agreed r state.new) }
+    ensures replies { IfOk result (λ r. RunReplies (driver_in scene.entry) (held_in (driver_in scene.entry) state.old) state.old.func state.old.entered rest view state.old.memory.agreed r state.new) }
+    ensures past { OnOk result (past_in state.new.memory ≡ past_in state.old.memory) }
 {
     state.memory.is_paired();
     let memory = mem::replace(&mut state.memory, UserMemory::new(alloc));

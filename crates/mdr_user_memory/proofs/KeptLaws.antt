@@ -14,7 +14,7 @@ use Rattle.mdr_model.proofs.CopyLaws.{rises-put_runs}
 use Rattle.mdr_region.specs.RowsView.{Reserved}
 use Rattle.mdr_track.specs.Pairs.{no_pairs}
 use Rattle.mdr_track.specs.Tracked.{Tracked, pairs_of}
-use Rattle.mdr_user_memory.specs.Copied.{Copied, copied}
+use Rattle.mdr_user_memory.specs.Copied.{Copied, Past, copied, past_of}
 use Rattle.mdr_user_memory.specs.Kept.{IsKept, IsSeen, Kept, kept}
 use Rattle.mdr_user_memory.specs.Paired.{Paired, held_in, now_of}
 use Rattle.mdr_user_memory.specs.Taking.{AreFresh, AreKept, AreSized, Moves, newborn_of, taken, unpaired_all}
@@ -73,12 +73,12 @@ pub kept_seen : (agreed : Memory) (region : Reserved) (pairs : Tracked) → IsKe
 kept_seen agreed region pairs k = record { twin = k.paired.twin; rises = k.rises }
 
 pub seen_is : (agreed : Memory) (region : Reserved) (pairs : Tracked) (view : List Cell) (old : Kept) → kept agreed region pairs ≡ old → IsKept agreed region pairs
-    → copied agreed view (now_of agreed region.contents (pairs_of pairs)) ≡ copied old.agreed view old.agreed
+    → copied (past_of region pairs) agreed view (now_of agreed region.contents (pairs_of pairs)) ≡ copied (past_of old.region old.pairs) old.agreed view old.agreed
 seen_is agreed region pairs view old e k =
-    ap (λ m. copied agreed view m) (now_copy k.rises k.paired) ∙ ap (λ (x : Kept). copied x.agreed view x.agreed) e
+    ap (λ m. copied (past_of region pairs) agreed view m) (now_copy k.rises k.paired) ∙ ap (λ (x : Kept). copied (past_of x.region x.pairs) x.agreed view x.agreed) e
 
 -- what code leaves, agreed on
-pub settled_kept : (runs : List Run) (agreed : Memory) (region : Reserved) (pairs : Tracked) (view : List Cell) (old : Copied) → copied agreed view (now_of agreed region.contents (pairs_of pairs)) ≡ old → IsSeen agreed region pairs
+pub settled_kept : (runs : List Run) (agreed : Memory) (region : Reserved) (pairs : Tracked) (view : List Cell) (old : Copied) → copied (past_of region pairs) agreed view (now_of agreed region.contents (pairs_of pairs)) ≡ old → IsSeen agreed region pairs
     → put_runs runs old.agreed ≡ old.memory → IsKept (put_runs runs agreed) region pairs
 settled_kept runs agreed region pairs view old e s told =
     let is : put_runs runs agreed ≡ now_of agreed region.contents (pairs_of pairs) = ap (λ (x : Copied). put_runs runs x.agreed) e ∙ (told ∙ sym (ap (λ (x : Copied). x.memory) e)) in
@@ -87,7 +87,7 @@ settled_kept runs agreed region pairs view old e s told =
       rises = rises-put_runs runs agreed s.rises;
     }
 
-pub settled_is : (runs : List Run) (agreed : Memory) (region : Reserved) (pairs : Tracked) (view : List Cell) (old : Copied) → copied agreed view (now_of agreed region.contents (pairs_of pairs)) ≡ old
+pub settled_is : (runs : List Run) (agreed : Memory) (region : Reserved) (pairs : Tracked) (view : List Cell) (old : Copied) → copied (past_of region pairs) agreed view (now_of agreed region.contents (pairs_of pairs)) ≡ old
     → put_runs runs old.agreed ≡ old.memory → put_runs runs agreed ≡ old.memory
 settled_is runs agreed region pairs view old e told = ap (λ (x : Copied). put_runs runs x.agreed) e ∙ told
 
@@ -97,18 +97,19 @@ pub seen_put : (agreed : Memory) (region region' : Reserved) (pairs : Tracked) (
 seen_put agreed region region' pairs c v s moves =
     record { twin = put_twin agreed region.contents region'.contents (pairs_of pairs) c v s.twin moves; rises = s.rises }
 
-pub put_is : (agreed : Memory) (region region' : Reserved) (pairs : Tracked) (view : List Cell) (old : Copied) (c : Cell) (v : Wire) → copied agreed view (now_of agreed region.contents (pairs_of pairs)) ≡ old → IsSeen agreed region pairs
-    → Moves (λ m. put m c (normal m v)) region.contents (pairs_of pairs) region'.contents (pairs_of pairs)
-    → copied agreed view (now_of agreed region'.contents (pairs_of pairs)) ≡ copied old.agreed old.view (put old.memory c (normal old.memory v))
-put_is agreed region region' pairs view old c v e s moves =
-    ap (λ m. copied agreed view m) (put_now agreed region.contents region'.contents (pairs_of pairs) c v s.twin moves s.rises)
-    ∙ ap (λ (x : Copied). copied x.agreed x.view (put x.memory c (normal x.memory v))) e
+pub put_is : (agreed : Memory) (region region' : Reserved) (pairs : Tracked) (view : List Cell) (old : Copied) (c : Cell) (v : Wire) → copied (past_of region pairs) agreed view (now_of agreed region.contents (pairs_of pairs)) ≡ old → IsSeen agreed region pairs
+    → Moves (λ m. put m c (normal m v)) region.contents (pairs_of pairs) region'.contents (pairs_of pairs) → region'.contents.lives ≡ region.contents.lives
+    → copied (past_of region' pairs) agreed view (now_of agreed region'.contents (pairs_of pairs)) ≡ copied old.past old.agreed old.view (put old.memory c (normal old.memory v))
+put_is agreed region region' pairs view old c v e s moves same =
+    ap (λ lives. copied (record { lives = lives; pairs = pairs }) agreed view (now_of agreed region'.contents (pairs_of pairs))) same
+    ∙ ap (λ m. copied (past_of region pairs) agreed view m) (put_now agreed region.contents region'.contents (pairs_of pairs) c v s.twin moves s.rises)
+    ∙ ap (λ (x : Copied). copied x.past x.agreed x.view (put x.memory c (normal x.memory v))) e
 
 -- what is read of a cell
-pub held_is : (agreed : Memory) (region : Reserved) (pairs : Tracked) (view : List Cell) (old : Copied) (c : Cell) → copied agreed view (now_of agreed region.contents (pairs_of pairs)) ≡ old → IsSeen agreed region pairs
+pub held_is : (agreed : Memory) (region : Reserved) (pairs : Tracked) (view : List Cell) (old : Copied) (c : Cell) → copied (past_of region pairs) agreed view (now_of agreed region.contents (pairs_of pairs)) ≡ old → IsSeen agreed region pairs
     → held_in region.contents (pairs_of pairs) c ≡ cell_at old.memory c
 held_is agreed region pairs view old c e s = sym ((now_paired s.twin).cells c) ∙ ap (λ (x : Copied). cell_at x.memory c) e
 
-pub live_is : (agreed : Memory) (region : Reserved) (pairs : Tracked) (view : List Cell) (old : Copied) (s : ℕ) → copied agreed view (now_of agreed region.contents (pairs_of pairs)) ≡ old → IsSeen agreed region pairs
+pub live_is : (agreed : Memory) (region : Reserved) (pairs : Tracked) (view : List Cell) (old : Copied) (s : ℕ) → copied (past_of region pairs) agreed view (now_of agreed region.contents (pairs_of pairs)) ≡ old → IsSeen agreed region pairs
     → is_some ((pairs_of pairs).user_of s) ≡ is_live old.memory s
 live_is agreed region pairs view old s e k = sym ((now_paired k.twin).twin.live s) ∙ ap (λ (x : Copied). is_live x.memory s) e

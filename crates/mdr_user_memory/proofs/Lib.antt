@@ -5,6 +5,7 @@ pub mod NowLaws
 pub mod WithinLaws
 pub mod StepLaws
 pub mod MessageLaws
+pub mod LivedLaws
 pub mod KeptLaws
 pub mod OpeningLaws
 pub mod ByteLaws

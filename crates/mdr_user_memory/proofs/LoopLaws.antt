@@ -23,8 +23,10 @@ use Rattle.mdr_region.specs.RowsView.{Reserved}
 use Rattle.mdr_track.specs.Pairs.{Pairs, paired, unpaired}
 use Rattle.mdr_track.specs.Tracked.{Tracked, pairs_of}
 use Rattle.mdr_user_memory.specs.declared.newborn.Newborn.{Newborn}
+use Rattle.mdr_user_memory.specs.Lived.{LivesIn, LivesLead, LivesOn, all_born, all_died, born, died}
 use Rattle.mdr_user_memory.specs.Paired.{IsLinked, Paired}
 use Rattle.mdr_user_memory.specs.Taking.{ArePlain, Fit, FitsOne, Leads, Moves, block_of, borne, kept_all, kept_runs, newborn_of, plain_block, total, unpaired_all}
+use Rattle.mdr_user_memory.proofs.LivedLaws.{births_done, births_next, deaths_done, deaths_next}
 use Rattle.mdr_user_memory.proofs.MessageLaws.{block_plain, wire_value}
 
 -- a call that can't fail
@@ -49,9 +51,10 @@ pub record Buries (all rest : List ℕ) (r : Reserved) (ps : Tracked) (r' : Rese
   pub cells : r'.cells ≡ r.cells
   pub births : r'.births ≡ r.births
   pub room : ps'.room ≡ ps.room
+  pub lived : LivesLead (all_died all) (all_died rest) r.contents.lives (pairs_of ps) r'.contents.lives (pairs_of ps')
 
 pub buries_first : (all : List ℕ) (r : Reserved) (ps : Tracked) → IsLinked r.contents (pairs_of ps) → Buries all all r ps r ps
-buries_first all r ps l = record { linked = l; leads = λ s qs mv. mv; paired = refl; cells = refl; births = refl; room = refl }
+buries_first all r ps l = record { linked = l; leads = λ s qs mv. mv; paired = refl; cells = refl; births = refl; room = refl; lived = λ a qs go. go }
 
 without_one : (s : ℕ) (rest : List ℕ) (m : Memory) → without (s ∷ rest) m ≡ without rest (killed s m)
 unfolding without
@@ -71,15 +74,16 @@ unpaired_none ps = refl
 
 pub buries_next : (all : List ℕ) (i : ℕ) (d : ℕ) (r r1 r2 : Reserved) (ps ps1 ps2 : Tracked) → i < length all
     → IsLinked r2.contents (pairs_of ps2) → Moves (killed (get_or all i d)) r1.contents (pairs_of ps1) r2.contents (pairs_of ps2) → pairs_of ps2 ≡ unpaired (get_or all i d) (pairs_of ps1)
-    → r2.cells ≡ r1.cells → r2.births ≡ r1.births → ps2.room ≡ ps1.room
+    → r2.cells ≡ r1.cells → r2.births ≡ r1.births → ps2.room ≡ ps1.room → LivesIn (died (get_or all i d)) r1 ps1 r2 ps2
     → Buries all (drop i all) r ps r1 ps1 → Buries all (drop (i + 1) all) r ps r2 ps2
-buries_next all i d r r1 r2 ps ps1 ps2 low linked moves gone cells births room b = record {
+buries_next all i d r r1 r2 ps ps1 ps2 low linked moves gone cells births room on b = record {
   linked = linked;
   leads = leads_next without (without all) (killed (get_or all i d)) all i d r.contents r1.contents r2.contents (pairs_of ps) (pairs_of ps1) (pairs_of ps2) low (without_one (get_or all i d) (drop (i + 1) all)) moves b.leads;
   paired = ap (unpaired_all (drop (i + 1) all)) gone ∙ (sym (unpaired_one (get_or all i d) (drop (i + 1) all) (pairs_of ps1)) ∙ (sym (at_drop_more (λ ss. unpaired_all ss (pairs_of ps1)) all i d low) ∙ b.paired));
   cells = cells ∙ b.cells;
   births = births ∙ b.births;
   room = room ∙ b.room;
+  lived = deaths_next all i d r.contents.lives r1.contents.lives r2.contents.lives (pairs_of ps) (pairs_of ps1) (pairs_of ps2) low on b.lived;
 }
 
 module _ (all : List ℕ) (i : ℕ) (r r' : Reserved) (ps ps' : Tracked) (over : length all ≤ i) (b : Buries all (drop i all) r ps r' ps') where
@@ -89,15 +93,19 @@ module _ (all : List ℕ) (i : ℕ) (r r' : Reserved) (ps ps' : Tracked) (over :
   pub buries_pairs : pairs_of ps' ≡ unpaired_all all (pairs_of ps)
   buries_pairs = sym (unpaired_none (pairs_of ps')) ∙ (sym (at_drop_all (λ ss. unpaired_all ss (pairs_of ps')) all i over) ∙ b.paired)
 
+  pub buries_lives : LivesOn (all_died all) r.contents.lives (pairs_of ps) r'.contents.lives (pairs_of ps')
+  buries_lives = deaths_done all i r.contents.lives r'.contents.lives (pairs_of ps) (pairs_of ps') over b.lived
+
 -- ---- births
 
 pub record Bears (all rest : List Newborn) (r : Reserved) (ps : Tracked) (r' : Reserved) (ps' : Tracked) : Type 0 where
   pub linked : IsLinked r'.contents (pairs_of ps')
   pub leads : Leads (borne all) (borne rest) r.contents (pairs_of ps) r'.contents (pairs_of ps')
   pub fit : Fit rest (pairs_of ps') r'.cells r'.births ps'.room
+  pub lived : LivesLead (all_born all) (all_born rest) r.contents.lives (pairs_of ps) r'.contents.lives (pairs_of ps')
 
 pub bears_first : (all : List Newborn) (r : Reserved) (ps : Tracked) → IsLinked r.contents (pairs_of ps) → Fit all (pairs_of ps) r.cells r.births ps.room → Bears all all r ps r ps
-bears_first all r ps l f = record { linked = l; leads = λ s qs mv. mv; fit = f }
+bears_first all r ps l f = record { linked = l; leads = λ s qs mv. mv; fit = f; lived = λ a qs go. go }
 
 borne_one : (x : Newborn) (rest : List Newborn) (m : Memory) → borne (x ∷ rest) m ≡ borne rest (inserted (plain_block x) m)
 unfolding borne
@@ -128,8 +136,9 @@ module _ (all : List Newborn) (i : ℕ) (x : Newborn) (r r1 : Reserved) (ps ps1 
   fit_behind = (fit_first x (drop (i + 1) all) (pairs_of ps1) r1.cells r1.births ps1.room front).1.1
 
   pub bears_next : (r2 : Reserved) (ps2 : Tracked) (k : Block) → IsLinked r2.contents (pairs_of ps2) → Moves (inserted (block_of x r1.contents.handles (pairs_of ps1))) r1.contents (pairs_of ps1) r2.contents (pairs_of ps2)
-      → pairs_of ps2 ≡ paired x.born.serial k (pairs_of ps1) → r2.cells ≡ r1.cells - length x.first → r2.births ≡ r1.births - 1 → ps2.room ≡ ps1.room - 1 → Bears all (drop (i + 1) all) r ps r2 ps2
-  bears_next r2 ps2 k linked moves more cells births room = record {
+      → pairs_of ps2 ≡ paired x.born.serial k (pairs_of ps1) → r2.cells ≡ r1.cells - length x.first → r2.births ≡ r1.births - 1 → ps2.room ≡ ps1.room - 1
+      → LivesIn (born x.born.serial (length x.first)) r1 ps1 r2 ps2 → Bears all (drop (i + 1) all) r ps r2 ps2
+  bears_next r2 ps2 k linked moves more cells births room on = record {
     linked = linked;
     leads =
         leads_next borne (borne all) (inserted (plain_block x)) all i x r.contents r1.contents r2.contents (pairs_of ps) (pairs_of ps1) (pairs_of ps2) low
@@ -140,19 +149,24 @@ module _ (all : List Newborn) (i : ℕ) (x : Newborn) (r r1 : Reserved) (ps ps1 
         (subst (λ n. Fit (drop (i + 1) all) (paired x.born.serial k (pairs_of ps1)) n r2.births ps2.room) (sym cells)
         (subst (λ n. Fit (drop (i + 1) all) (paired x.born.serial k (pairs_of ps1)) (r1.cells - length x.first) n ps2.room) (sym births)
         (subst (λ n. Fit (drop (i + 1) all) (paired x.born.serial k (pairs_of ps1)) (r1.cells - length x.first) (r1.births - 1) n) (sym room) (fit_behind k))));
+    lived = births_next all i x r.contents.lives r1.contents.lives r2.contents.lives (pairs_of ps) (pairs_of ps1) (pairs_of ps2) low is on b.lived;
   }
 
 pub bears_moves : (all : List Newborn) (i : ℕ) (r r' : Reserved) (ps ps' : Tracked) → length all ≤ i → Bears all (drop i all) r ps r' ps' → Moves (borne all) r.contents (pairs_of ps) r'.contents (pairs_of ps')
 bears_moves all i r r' ps ps' over b = leads_done borne (borne all) all i r.contents r'.contents (pairs_of ps) (pairs_of ps') over borne_none b.leads
+
+pub bears_lives : (all : List Newborn) (i : ℕ) (r r' : Reserved) (ps ps' : Tracked) → length all ≤ i → Bears all (drop i all) r ps r' ps' → LivesOn (all_born all) r.contents.lives (pairs_of ps) r'.contents.lives (pairs_of ps')
+bears_lives all i r r' ps ps' over b = births_done all i r.contents.lives r'.contents.lives (pairs_of ps) (pairs_of ps') over b.lived
 
 -- ---- values of a run
 
 pub record Keeps (all rest : Memory → Memory) (r r' : Contents) (ps : Pairs) : Type 0 where
   pub linked : IsLinked r' ps
   pub leads : Leads all rest r ps r' ps
+  pub lives : r'.lives ≡ r.lives
 
 pub keeps_first : (all : Memory → Memory) (r : Contents) (ps : Pairs) → IsLinked r ps → Keeps all all r r ps
-keeps_first all r ps l = record { linked = l; leads = λ s qs mv. mv }
+keeps_first all r ps l = record { linked = l; leads = λ s qs mv. mv; lives = refl }
 
 row_one : (serial n : ℕ) (w : Wire) (ws : List Wire) (m : Memory) → kept_all (numbered serial n (w ∷ ws)) m ≡ kept_all (numbered serial (suc n) ws) (put m (record { serial = serial; index = n }) (normal m w))
 unfolding kept_all numbered
@@ -167,14 +181,15 @@ row_start serial first ws m =
     let none : first + 0 ≡ first = omega arith in ap (λ n. kept_all (numbered serial n ws) m) none
 
 pub row_first : (serial first : ℕ) (ws : List Wire) (r : Contents) (ps : Pairs) → IsLinked r ps → Keeps (kept_all (numbered serial first ws)) (kept_all (numbered serial (first + 0) (drop 0 ws))) r r ps
-row_first serial first ws r ps l = record { linked = l; leads = λ s qs mv m p. subst (λ x. Paired x s qs) (row_start serial first ws m) (mv m p) }
+row_first serial first ws r ps l = record { linked = l; leads = λ s qs mv m p. subst (λ x. Paired x s qs) (row_start serial first ws m) (mv m p); lives = refl }
 
 pub row_next : (serial first : ℕ) (all : Memory → Memory) (ws : List Wire) (i : ℕ) (d : Wire) (v : Value) (r r1 r2 : Contents) (ps : Pairs) → i < length ws → v ≡ value_of (get_or ws i d)
-    → IsLinked r2 ps → Moves (λ m. put m (record { serial = serial; index = first + i }) (normal m (wire_of v))) r1 ps r2 ps
+    → IsLinked r2 ps → Moves (λ m. put m (record { serial = serial; index = first + i }) (normal m (wire_of v))) r1 ps r2 ps → r2.lives ≡ r1.lives
     → Keeps all (kept_all (numbered serial (first + i) (drop i ws))) r r1 ps → Keeps all (kept_all (numbered serial (first + (i + 1)) (drop (i + 1) ws))) r r2 ps
-row_next serial first all ws i d v r r1 r2 ps low is linked moves k = record {
+row_next serial first all ws i d v r r1 r2 ps low is linked moves same k = record {
   linked = linked;
   leads = λ s qs mv. k.leads s qs (λ m p. subst (λ x. Paired x s qs) (sym (step m)) (mv _ (moves m p)));
+  lives = same ∙ k.lives;
 }
   where
     wire : wire_of v ≡ get_or ws i d
@@ -202,13 +217,14 @@ unfolding kept_runs
 runs_none m = refl
 
 pub runs_next : (all : Memory → Memory) (runs : List Run) (i : ℕ) (x : Run) (values : List Wire) (r r1 r2 : Contents) (ps : Pairs) → i < length runs → x ≡ get_or runs i x → values ≡ x.values
-    → IsLinked r2 ps → Moves (kept_all (numbered x.serial x.first values)) r1 ps r2 ps → Keeps all (kept_runs (drop i runs)) r r1 ps → Keeps all (kept_runs (drop (i + 1) runs)) r r2 ps
-runs_next all runs i x values r r1 r2 ps low is lent linked moves k = record {
+    → IsLinked r2 ps → Moves (kept_all (numbered x.serial x.first values)) r1 ps r2 ps → r2.lives ≡ r1.lives → Keeps all (kept_runs (drop i runs)) r r1 ps → Keeps all (kept_runs (drop (i + 1) runs)) r r2 ps
+runs_next all runs i x values r r1 r2 ps low is lent linked moves same k = record {
   linked = linked;
   leads =
       leads_next kept_runs all (kept_all (numbered x.serial x.first values)) runs i x r r1 r2 ps ps ps low
       (λ m. ap (λ y. kept_runs (y ∷ drop (i + 1) runs) m) (sym is) ∙ (runs_one x (drop (i + 1) runs) m ∙ ap (λ vs. kept_runs (drop (i + 1) runs) (kept_all (numbered x.serial x.first vs) m)) (sym lent)))
       moves k.leads;
+  lives = same ∙ k.lives;
 }
 
 pub runs_moves : (all : Memory → Memory) (runs : List Run) (i : ℕ) (r r' : Contents) (ps : Pairs) → length runs ≤ i → Keeps all (kept_runs (drop i runs)) r r' ps → Moves all r ps r' ps

@@ -14,7 +14,7 @@ use Rattle.mdr_model.specs.Memory.{Memory, born_at, cell_at, cell_of, is_live, n
 use Rattle.mdr_model.specs.Sets.{is_in, is_same_cell}
 use Rattle.mdr_model.proofs.CopyLaws.{born_at-put_runs, cell_at-changes, rises-put_runs}
 use Rattle.mdr_model.proofs.MemoryLaws.{born_at-put, cell_at-put, replaced, rises-put, same_cell, same_memory}
-use Rattle.mdr_user_memory.specs.Copied.{Copied, copied, copied_if, copy_accesses}
+use Rattle.mdr_user_memory.specs.Copied.{Copied, Past, copied, copied_if, copy_accesses}
 use Rattle.mdr_user_memory.specs.Within.{IsLeft, IsWithin}
 
 pub within_first : (view : List Cell) (copy : Memory) → SerialsRise copy → IsWithin view copy copy
@@ -71,22 +71,22 @@ within-stored {view} {copy} {m} p v m' e w = of (reached (is_in view) m p) refl 
         same : ◌≡◌ {A = Result Memory StopKind} (Ok (put m c (normal m v))) (Ok m') → put m c (normal m v) ≡ m'
         same q = cc
 
-module _ (agreed : Memory) (view : List Cell) where
-  accessed : {A : Type 0} (x : Result A StopKind) (at : At) (c : Copied) (n : ℕ) (go : A → Walked Copied) → IsLeft agreed view c → ((y : A) → IsLeft agreed view (go y).memory) → IsLeft agreed view (on_access x at c n go).memory
+module _ (past : Past) (agreed : Memory) (view : List Cell) where
+  accessed : {A : Type 0} (x : Result A StopKind) (at : At) (c : Copied) (n : ℕ) (go : A → Walked Copied) → IsLeft past agreed view c → ((y : A) → IsLeft past agreed view (go y).memory) → IsLeft past agreed view (on_access x at c n go).memory
   accessed (Ok y) at c n go l rest = rest y
   accessed (Err kind) at c n go l rest = l
 
-  stores : (c : Copied) (p v : Wire) (at : At) (n : ℕ) (go : Copied → Walked Copied) → IsLeft agreed view c → ((y : Copied) → IsLeft agreed view y → IsLeft agreed view (go y).memory)
-      → IsLeft agreed view (on_access (copied_if c.agreed c.view (stored (is_in c.view) c.memory p v)) at c n go).memory
+  stores : (c : Copied) (p v : Wire) (at : At) (n : ℕ) (go : Copied → Walked Copied) → IsLeft past agreed view c → ((y : Copied) → IsLeft past agreed view y → IsLeft past agreed view (go y).memory)
+      → IsLeft past agreed view (on_access (copied_if c.past c.agreed c.view (stored (is_in c.view) c.memory p v)) at c n go).memory
   stores c p v at n go l rest = of (stored (is_in c.view) c.memory p v) refl
     where
-      of : (o : Result Memory StopKind) → stored (is_in c.view) c.memory p v ≡ o → IsLeft agreed view (on_access (copied_if c.agreed c.view o) at c n go).memory
+      of : (o : Result Memory StopKind) → stored (is_in c.view) c.memory p v ≡ o → IsLeft past agreed view (on_access (copied_if c.past c.agreed c.view o) at c n go).memory
       of (Err kind) e = l
       of (Ok m) e =
-          rest (copied c.agreed c.view m)
-          (record { copy = l.copy; cells = l.cells; within = within-stored p v m (subst (λ (vs : List Cell). stored (is_in vs) c.memory p v ≡ Ok m) l.cells e) l.within })
+          rest (copied c.past c.agreed c.view m)
+          (record { lived = l.lived; copy = l.copy; cells = l.cells; within = within-stored p v m (subst (λ (vs : List Cell). stored (is_in vs) c.memory p v ≡ Ok m) l.cells e) l.within })
 
-  pub walk_left : (n : ℕ) (t : Tree) (c : Copied) → IsLeft agreed view c → IsLeft agreed view (walk copy_accesses n t c).memory
+  pub walk_left : (n : ℕ) (t : Tree) (c : Copied) → IsLeft past agreed view c → IsLeft past agreed view (walk copy_accesses n t c).memory
   unfolding walk
   walk_left n Tree.Idle c l = l
   walk_left n (Tree.Waits k) c l = l

@@ -3,4 +3,5 @@ pub mod Copied
 pub mod Spots
 pub mod Taking
 pub mod Within
+pub mod Lived
 pub mod Kept

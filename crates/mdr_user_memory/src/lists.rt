@@ -3,6 +3,7 @@
 ghost use Rattle.std.specs.Prelude.{◌≡◌};
 ghost use Rattle.mdr_model.specs.Copies.{numbered, without};
 ghost use Rattle.mdr_track.specs.Tracked.{pairs_of};
+ghost use Rattle.mdr_user_memory.specs.Lived.{LivesIn, all_born, all_died};
 ghost use Rattle.mdr_user_memory.specs.Paired.{IsLinked};
 ghost use Rattle.mdr_user_memory.specs.Taking.{Fit, Moves, borne, kept_all, kept_runs, unpaired_all};
 
@@ -24,6 +25,7 @@ pub(crate) fn bury_all(region: &mut Region, pairs: &mut Tracker, serials: &[u64]
     ensures cells { region.new.cells ≡ region.old.cells }
     ensures births { region.new.births ≡ region.old.births }
     ensures room { pairs.new.room ≡ pairs.old.room }
+    ensures lived { LivesIn (all_died serials.now) region.old pairs.old region.new pairs.new }
 {
     for serial in serials {
         bury(region, pairs, *serial);
@@ -36,6 +38,7 @@ pub(crate) fn bear_all(region: &mut Region, pairs: &mut Tracker, alloc: Global, 
     requires fit { Fit news.now (pairs_of pairs.old) region.old.cells region.old.births pairs.old.room }
     ensures linked { IsLinked region.new.contents (pairs_of pairs.new) }
     ensures moves { Moves (borne news.now) region.old.contents (pairs_of pairs.old) region.new.contents (pairs_of pairs.new) }
+    ensures lived { LivesIn (all_born news.now) region.old pairs.old region.new pairs.new }
 {
     for new in news {
         bear(region, pairs, alloc, new);
@@ -47,6 +50,7 @@ fn keep_row(region: &mut Region, pairs: &Tracker, serial: u64, first: u32, value
     requires { IsLinked region.old.contents (pairs_of pairs.now) }
     ensures linked { IsLinked region.new.contents (pairs_of pairs.now) }
     ensures moves { Moves (kept_all (numbered serial first values.now)) region.old.contents (pairs_of pairs.now) region.new.contents (pairs_of pairs.now) }
+    ensures lives { region.new.contents.lives ≡ region.old.contents.lives }
 {
     for (i, value) in values.iter().enumerate() {
         let spot = Spot {
@@ -62,6 +66,7 @@ pub(crate) fn scatter(region: &mut Region, pairs: &Tracker, runs: &[Run])
     requires { IsLinked region.old.contents (pairs_of pairs.now) }
     ensures linked { IsLinked region.new.contents (pairs_of pairs.now) }
     ensures moves { Moves (kept_runs runs.now) region.old.contents (pairs_of pairs.now) region.new.contents (pairs_of pairs.now) }
+    ensures lives { region.new.contents.lives ≡ region.old.contents.lives }
 {
     for run in runs {
         keep_row(region, pairs, run.serial, run.first, run.values.as_slice());

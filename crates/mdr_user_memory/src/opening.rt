@@ -5,6 +5,7 @@ ghost use Rattle.mdr_model.specs.Agreement.{SerialsRise};
 ghost use Rattle.mdr_model.specs.Memory.{Memory};
 ghost use Rattle.mdr_mem.specs.Contents.{wire_in};
 ghost use Rattle.mdr_track.specs.Tracked.{pairs_of};
+ghost use Rattle.mdr_user_memory.specs.Lived.{HasLived, LivesIn, born, lived_of};
 ghost use Rattle.mdr_user_memory.specs.Paired.{IsLinked, Paired, is_paired, told, told_all};
 ghost use Rattle.mdr_user_memory.specs.Taking.{FitsOne, Moves};
 
@@ -100,7 +101,8 @@ fn add(
 ) -> Result<(), OutOfMemory>
     requires linked { IsLinked region.old.contents (pairs_of pairs.old) }
     requires new { (pairs_of pairs.old).user_of block.now.born.serial ≡ None }
-    ensures { OnOk result (Moves (λ (m : Memory). m ++ block.now ∷ []) region.old.contents (pairs_of pairs.old) region.new.contents (pairs_of pairs.new)) }
+    ensures moves { OnOk result (Moves (λ (m : Memory). m ++ block.now ∷ []) region.old.contents (pairs_of pairs.old) region.new.contents (pairs_of pairs.new)) }
+    ensures lived { OnOk result (LivesIn (born block.now.born.serial (length block.now.cells)) region.old pairs.old region.new pairs.new) }
 {
     let first = all_placed(alloc, region, pairs, block.cells.as_slice())?;
     let new = Newborn {
@@ -119,7 +121,8 @@ fn add(
 /// A memory that goes with a copy whose serials rise.
 pub(crate) fn twins_of(alloc: Global, copy: &[MemoryBlock]) -> Result<Twins, OutOfMemory>
     requires { SerialsRise copy.now }
-    ensures { IfOk result (λ t. Paired copy.now t.region.contents (pairs_of t.pairs)) }
+    ensures paired { IfOk result (λ t. Paired copy.now t.region.contents (pairs_of t.pairs)) }
+    ensures lived { IfOk result (λ t. HasLived (lived_of copy.now) t.region.contents.lives (pairs_of t.pairs)) }
 {
     let mut region = Region::new(alloc);
     let mut pairs = Tracker::new(alloc);

@@ -38,7 +38,7 @@ fn value_of(integer: Integer) -> Value
 }
 
 fn put_first(memory: &mut SeenMemory, serial: u64, integer: Integer)
-    ensures { memory.new ≡ copied memory.old.agreed memory.old.view (put memory.old.memory (record { serial = serial; index = 0 }) (integer_wire integer)) }
+    ensures { memory.new ≡ copied memory.old.past memory.old.agreed memory.old.view (put memory.old.memory (record { serial = serial; index = 0 }) (integer_wire integer)) }
 {
     let spot = Spot { serial, index: 0 };
     memory.put(spot, value_of(integer));

@@ -5,8 +5,8 @@ ghost use Rattle.mdr_meaning.specs.Values.{wire_of};
 ghost use Rattle.mdr_model.specs.Copies.{held, put_runs};
 ghost use Rattle.mdr_model.specs.Memory.{cell_at, is_live, normal, put};
 ghost use Rattle.mdr_track.specs.Tracked.{pairs_of};
-ghost use Rattle.mdr_user_memory.specs.Copied.{copied};
-ghost use Rattle.mdr_user_memory.specs.Kept.{IsSeen};
+ghost use Rattle.mdr_user_memory.specs.Copied.{copied, past_of};
+ghost use Rattle.mdr_user_memory.specs.Kept.{IsSeen, past_in};
 ghost use Rattle.mdr_user_memory.specs.Paired.{now_of};
 ghost use Rattle.mdr_user_memory.specs.Spots.{cell_in};
 
@@ -39,13 +39,13 @@ pub struct SeenMemory {
 
 impl Model for SeenMemory {
     ghost use Rattle.mdr_track.specs.Tracked.{pairs_of};
-    ghost use Rattle.mdr_user_memory.specs.Copied.{Copied, copied};
+    ghost use Rattle.mdr_user_memory.specs.Copied.{Copied, copied, past_of};
     ghost use Rattle.mdr_user_memory.specs.Kept.{IsSeen};
     ghost use Rattle.mdr_user_memory.specs.Paired.{now_of};
 
     ghost Value = { Copied };
 
-    ghost view = { λ s. copied s.agreed s.view (now_of s.agreed s.region.contents (pairs_of s.pairs)) };
+    ghost view = { λ s. copied (past_of s.region s.pairs) s.agreed s.view (now_of s.agreed s.region.contents (pairs_of s.pairs)) };
 
     ghost invariant = { λ s. IsSeen s.agreed s.region s.pairs };
 }
@@ -58,7 +58,7 @@ pub(crate) fn seen_memory(
     view: CellList,
 ) -> SeenMemory
     requires { IsSeen agreed region pairs }
-    ensures { result ≡ copied agreed view (now_of agreed region.contents (pairs_of pairs)) }
+    ensures { result ≡ copied (past_of region pairs) agreed view (now_of agreed region.contents (pairs_of pairs)) }
 {
     SeenMemory {
         agreed,
@@ -122,7 +122,7 @@ impl SeenMemory {
 
     /// A value in hand is put into a cell. Where there is none, nothing is done. It takes no memory.
     pub fn put(&mut self, spot: Spot, value: Value)
-        ensures { self.new ≡ copied self.old.agreed self.old.view (put self.old.memory (cell_in spot) (normal self.old.memory (wire_of value))) }
+        ensures { self.new ≡ copied self.old.past self.old.agreed self.old.view (put self.old.memory (cell_in spot) (normal self.old.memory (wire_of value))) }
     {
         keep(&mut self.region, &self.pairs, spot, value);
     }
@@ -132,6 +132,7 @@ impl SeenMemory {
         requires { put_runs runs.now self.agreed ≡ self.memory }
         ensures memory { result.memory.agreed ≡ self.memory }
         ensures view { result.view ≡ self.view }
+        ensures past { past_in result.memory ≡ self.past }
     {
         let agreed = told_copy(self.agreed, runs);
         Settled {

@@ -7,6 +7,7 @@ ghost use Rattle.mdr_model.specs.Copies.{inserted};
 ghost use Rattle.mdr_model.specs.Memory.{Memory, killed, normal, put};
 ghost use Rattle.mdr_track.specs.Pairs.{paired, unpaired};
 ghost use Rattle.mdr_track.specs.Tracked.{pairs_of};
+ghost use Rattle.mdr_user_memory.specs.Lived.{LivesIn, born, died};
 ghost use Rattle.mdr_user_memory.specs.Paired.{IsLinked};
 ghost use Rattle.mdr_user_memory.specs.Spots.{cell_in};
 ghost use Rattle.mdr_user_memory.specs.Taking.{FitsOne, Moves, block_of};
@@ -29,6 +30,7 @@ fn bury_block(region: &mut Region, pairs: &mut Tracker, serial: u64, block: Bloc
     ensures cells { region.new.cells ≡ region.old.cells }
     ensures births { region.new.births ≡ region.old.births }
     ensures room { pairs.new.room ≡ pairs.old.room }
+    ensures lived { LivesIn (died serial) region.old pairs.old region.new pairs.new }
 {
     region.kill(block);
     pairs.drop_pair(serial);
@@ -44,6 +46,7 @@ pub(crate) fn bury(region: &mut Region, pairs: &mut Tracker, serial: u64)
     ensures cells { region.new.cells ≡ region.old.cells }
     ensures births { region.new.births ≡ region.old.births }
     ensures room { pairs.new.room ≡ pairs.old.room }
+    ensures lived { LivesIn (died serial) region.old pairs.old region.new pairs.new }
 {
     match pairs.user_of(serial) {
         Some(block) => bury_block(region, pairs, serial, block),
@@ -61,6 +64,7 @@ pub(crate) fn bear(region: &mut Region, pairs: &mut Tracker, alloc: Global, new:
     ensures cells { region.new.cells ≡ region.old.cells - length new.now.first }
     ensures births { region.new.births ≡ region.old.births - 1 }
     ensures room { pairs.new.room ≡ pairs.old.room - 1 }
+    ensures lived { LivesIn (born new.now.born.serial (length new.now.first)) region.old pairs.old region.new pairs.new }
 {
     let shape = Shape {
         ty: new.born.ty,
@@ -82,6 +86,7 @@ fn keep_in(region: &mut Region, pairs: &Tracker, block: Block, spot: Spot, value
     requires pair { (pairs_of pairs.now).user_of spot.serial ≡ Some block }
     ensures linked { IsLinked region.new.contents (pairs_of pairs.now) }
     ensures moves { Moves (λ (m : Memory). put m (cell_in spot) (normal m (wire_of value))) region.old.contents (pairs_of pairs.now) region.new.contents (pairs_of pairs.now) }
+    ensures lives { region.new.contents.lives ≡ region.old.contents.lives }
 {
     let placed = pairs.addressed(value);
     region.put(block, spot.index as u64, placed);
@@ -93,6 +98,7 @@ pub(crate) fn keep(region: &mut Region, pairs: &Tracker, spot: Spot, value: Valu
     requires { IsLinked region.old.contents (pairs_of pairs.now) }
     ensures linked { IsLinked region.new.contents (pairs_of pairs.now) }
     ensures moves { Moves (λ (m : Memory). put m (cell_in spot) (normal m (wire_of value))) region.old.contents (pairs_of pairs.now) region.new.contents (pairs_of pairs.now) }
+    ensures lives { region.new.contents.lives ≡ region.old.contents.lives }
 {
     match pairs.user_of(spot.serial) {
         Some(block) => keep_in(region, pairs, block, spot, value),

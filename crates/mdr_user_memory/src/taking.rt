@@ -2,6 +2,7 @@
 
 ghost use Rattle.std.specs.Prelude.{◌≡◌, ◌+◌, length, map, IfOk, OnErr, OnOk};
 ghost use Rattle.mdr_track.specs.Tracked.{pairs_of};
+ghost use Rattle.mdr_user_memory.specs.Lived.{LivesIn, lived_by, lived_with};
 ghost use Rattle.mdr_user_memory.specs.Paired.{IsLinked};
 ghost use Rattle.mdr_user_memory.specs.Taking.{AreFresh, AreSized, Fit, IsRoom, MovesIn, newborn_of, taken, taken_by, total, unpaired_all};
 
@@ -95,7 +96,8 @@ fn promise(region: &mut Region, pairs: &mut Tracker, news: &[Newborn]) -> Result
 fn change(region: &mut Region, pairs: &mut Tracker, alloc: Global, told: Tidings, news: &[Newborn])
     requires linked { IsLinked region.old.contents (pairs_of pairs.old) }
     requires fit { Fit news.now (unpaired_all told.deaths.now (pairs_of pairs.old)) region.old.cells region.old.births pairs.old.room }
-    ensures { MovesIn (taken told.entry.deaths.now news.now told.entry.runs.now) region.old pairs.old region.new pairs.new }
+    ensures moves { MovesIn (taken told.entry.deaths.now news.now told.entry.runs.now) region.old pairs.old region.new pairs.new }
+    ensures lived { LivesIn (lived_with told.entry.deaths.now news.now) region.old pairs.old region.new pairs.new }
 {
     bury_all(region, pairs, told.deaths);
     bear_all(region, pairs, alloc, news);
@@ -114,6 +116,7 @@ fn take_in(
     requires sized { AreSized news.now }
     requires fresh { AreFresh news.now (unpaired_all told.deaths.now (pairs_of pairs.old)) }
     ensures moves { OnOk result (MovesIn (taken told.entry.deaths.now news.now told.entry.runs.now) region.old pairs.old region.new pairs.new) }
+    ensures lived { OnOk result (LivesIn (lived_with told.entry.deaths.now news.now) region.old pairs.old region.new pairs.new) }
     ensures same_memory { OnErr result (region.new.contents ≡ region.old.contents) }
     ensures same_pairs { OnErr result (pairs_of pairs.new ≡ pairs_of pairs.old) }
 {
@@ -134,6 +137,7 @@ pub(crate) fn take_told(
     requires sized { AreSized (map (newborn_of program.now) told.news.now) }
     requires fresh { AreFresh (map (newborn_of program.now) told.news.now) (unpaired_all told.deaths.now (pairs_of pairs.old)) }
     ensures moves { OnOk result (MovesIn (taken_by program.now told.entry.deaths.now told.entry.news.now told.entry.runs.now) region.old pairs.old region.new pairs.new) }
+    ensures lived { OnOk result (LivesIn (lived_by program.now told.entry.deaths.now told.entry.news.now) region.old pairs.old region.new pairs.new) }
     ensures same_memory { OnErr result (region.new.contents ≡ region.old.contents) }
     ensures same_pairs { OnErr result (pairs_of pairs.new ≡ pairs_of pairs.old) }
 {

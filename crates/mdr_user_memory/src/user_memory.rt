@@ -6,7 +6,8 @@ ghost use Rattle.mdr_model.specs.Copies.{put_runs, values_of_runs};
 ghost use Rattle.mdr_model.specs.User.{lives_fit, renewed_copy};
 ghost use Rattle.mdr_track.specs.Tracked.{pairs_of};
 ghost use Rattle.mdr_user_memory.specs.Copied.{copied};
-ghost use Rattle.mdr_user_memory.specs.Kept.{IsKept, kept};
+ghost use Rattle.mdr_user_memory.specs.Kept.{IsKept, IsLived, LivesTo, kept, past_in};
+ghost use Rattle.mdr_user_memory.specs.Lived.{lived_by, lived_of};
 ghost use Rattle.mdr_user_memory.specs.Paired.{Paired};
 ghost use Rattle.mdr_user_memory.specs.Taking.{AreKept};
 
@@ -66,11 +67,12 @@ impl UserMemory {
         user_memory(RisingBlocks::new(alloc), region, pairs)
     }
 
-    /// The memory of a copy whose serials rise. Where a cell points to a block that comes later, that answers want of
+    /// The memory of a copy whose serials rise, in whose order its blocks are born. Where a cell points to a block that comes later, that answers want of
     /// memory.
     pub fn of_copy(alloc: Global, copy: RisingBlocks) -> Result<UserMemory, OutOfMemory>
         requires { SerialsRise copy }
-        ensures { IfOk result (λ u. u.agreed ≡ copy) }
+        ensures copy { IfOk result (λ u. u.agreed ≡ copy) }
+        ensures lived { IfOk result (IsLived (lived_of copy)) }
     {
         match twins_of(alloc, copy.as_slice()) {
             Ok(twins) => Ok(user_memory(copy, twins.region, twins.pairs)),
@@ -120,6 +122,7 @@ impl UserMemory {
         requires leads { copy ≡ put_runs told.runs.now (renewed_copy program.now told.deaths.now told.news.now self.old.agreed) }
         requires kept { AreKept (values_of_runs told.runs.now) (renewed_copy program.now told.deaths.now told.news.now self.old.agreed) }
         ensures taken { OnOk result (self.new.agreed ≡ copy) }
+        ensures lived { OnOk result (LivesTo (lived_by program.now told.entry.deaths.now told.entry.news.now) self.old self.new) }
         ensures same_copy { OnErr result (self.new.agreed ≡ self.old.agreed) }
         ensures same_memory { OnErr result (self.new.region.contents ≡ self.old.region.contents) }
         ensures same_pairs { OnErr result (pairs_of self.new.pairs ≡ pairs_of self.old.pairs) }
@@ -135,7 +138,7 @@ impl UserMemory {
 
     /// What user code runs on, where it may touch these cells.
     pub fn seen(self, view: CellList) -> SeenMemory
-        ensures { result ≡ copied self.agreed view self.agreed }
+        ensures { result ≡ copied (past_in self) self.agreed view self.agreed }
     {
         seen_memory(self.agreed, self.region, self.pairs, view)
     }

@@ -60,8 +60,5 @@ pub pointer-current : (hs : List Block) (p : View) (b : Block) (serial : ℕ) �
 unfolding current
 pointer-current hs p b serial e = ap (λ t. cond t (value.Ptr (placed b p)) value.Dead) (is_found hs serial b e)
 
-pub pointer-wire : (hs : List Block) (p : View) (b : Block) → handle_of hs p.block.serial ≡ Some b → wire_in hs (value.Ptr (placed b p)) ≡ wire.Ptr (wire_view p)
-pointer-wire hs p b e = ap wire_of (pointer-current hs p b p.block.serial e) ∙ wire-placed b p (serial_found hs p.block.serial b e)
-
 pub alive_is : (s : Contents) (b : Block) → IsInOrder s → is_handle s.handles b ≡ true → Some b ≡ handle_of s.handles b.serial
 alive_is s b order e = sym (order.one b e)

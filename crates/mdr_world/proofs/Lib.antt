@@ -1,6 +1,7 @@
 pub mod BlockLaws
 mod FirstLaws
 pub mod GateLaws
+mod GlobalLaws
 pub mod HandleLaws
 pub mod LaidLaws
 pub mod LockLaws

@@ -1,20 +1,18 @@
 // The globals as they are born.
 
 ghost use Rattle.std.specs.Prelude.{◌≡◌, ◌≤◌, IfOk, length, map};
-ghost use Rattle.mdr_core.specs.Sound.{HasFewNumbers};
+ghost use Rattle.mdr_core.specs.Sound.{IsSound};
 ghost use Rattle.mdr_mem.specs.Contents.{births_in, wire_in};
 ghost use Rattle.mdr_meaning.specs.Bodies.{known_of};
 ghost use Rattle.mdr_meaning.specs.Numbers.{is_same_type, number_in};
-ghost use Rattle.mdr_meaning.specs.Values.{wire_of, wire_view};
-ghost use Rattle.mdr_meaning.specs.declared.wire.Wire.TheVariants as wire;
+ghost use Rattle.mdr_meaning.specs.Values.{wire_of};
 ghost use Rattle.mdr_plain.specs.Storage.{birth_of, first_memory, global_block, global_blocks};
-ghost use Rattle.mdr_world.specs.Stored.{IsCounted};
+ghost use Rattle.mdr_world.specs.Stored.{AreSoundGlobals, AreThere, IsCounted, IsThere};
 ghost use Rattle.std.specs.Prelude.{◌++◌, ◌∷◌, [], OnOk};
 
-use crate::handles::handle;
+use crate::handles::value_now;
 use crate::storage::Storage;
-use mdr_core::{GlobalDef, Items, OutOfMemory, Program, Shape, Ty, Value, View, same_type};
-use mdr_mem::Cells;
+use mdr_core::{GlobalDef, Items, OutOfMemory, Program, Shape, Ty, Value, same_type};
 use mdr_model::BirthKind;
 use mdr_region::RegionBlocks;
 use std::alloc::Global;
@@ -47,31 +45,12 @@ fn number_of(types: &[Ty], ty: &Ty) -> u32
     number_in(types, ty) as u32
 }
 
-/// A pointer with the slot of its block, which was born before.
-fn placed_view(blocks: &RegionBlocks, p: View) -> Result<Value, OutOfMemory>
-    ensures { IfOk result (λ x. wire_in blocks.now.handles x ≡ wire.Ptr (wire_view p)) }
+/// A value, where it points to a block that was born before with the slot of that.
+fn placed(blocks: &RegionBlocks, v: Value) -> Value
+    requires { IsThere blocks.now.memory v }
+    ensures { wire_in blocks.now.handles result ≡ wire_of v }
 {
-    let _in_order = blocks.births();
-    match handle(blocks, p.block) {
-        Some(block) => Ok(Value::Ptr(View {
-            block,
-            first: p.first,
-            ty: p.ty,
-            count: p.count,
-            index: p.index,
-        })),
-        None => Err(OutOfMemory::unmet()),
-    }
-}
-
-#[tactic(auto, unfolding(mdr_mem::specs::Contents::current))]
-fn placed(blocks: &RegionBlocks, v: Value) -> Result<Value, OutOfMemory>
-    ensures { IfOk result (λ x. wire_in blocks.now.handles x ≡ wire_of v) }
-{
-    match v {
-        Value::Ptr(p) => placed_view(blocks, p),
-        _ => Ok(v),
-    }
+    value_now(blocks, v)
 }
 
 fn all_placed(
@@ -79,11 +58,12 @@ fn all_placed(
     alloc: Global,
     first: &[Value],
 ) -> Result<Items<Value>, OutOfMemory>
+    requires { AreThere blocks.now.memory first.now }
     ensures { IfOk result (λ vs. map (wire_in blocks.now.handles) vs ≡ map wire_of first.now) }
 {
     let mut values = Items::new(alloc);
     for v in first {
-        values.push(placed(blocks, *v)?)?;
+        values.push(placed(blocks, *v))?;
     }
     Ok(values)
 }
@@ -96,6 +76,7 @@ fn global_born(
 ) -> Result<(), OutOfMemory>
     requires few { length program.now.types ≤ 16777216 }
     requires counted { IsCounted storage.old }
+    requires there { AreThere storage.old.blocks.memory global.now.init }
     ensures counted { IsCounted storage.new }
     ensures memory { OnOk result (storage.new.blocks.memory ≡ storage.old.blocks.memory ++ global_block (known_of program.now) (births_in storage.old.lives) global.now ∷ []) }
     ensures lives { OnOk result (storage.new.lives ≡ storage.old.lives ++ birth_of (global_block (known_of program.now) (births_in storage.old.lives) global.now) ∷ []) }
@@ -110,7 +91,8 @@ fn global_born(
 }
 
 fn all_born(alloc: Global, program: &Program, globals: &[GlobalDef]) -> Result<Storage, OutOfMemory>
-    requires { length program.now.types ≤ 16777216 }
+    requires few { length program.now.types ≤ 16777216 }
+    requires sound { AreSoundGlobals program.now globals.now }
     ensures counted { IfOk result (λ s. IsCounted s) }
     ensures memory { IfOk result (λ s. s.blocks.memory ≡ global_blocks (known_of program.now) 0 globals.now) }
     ensures lives { IfOk result (λ s. s.lives ≡ map birth_of s.blocks.memory) }
@@ -122,11 +104,10 @@ fn all_born(alloc: Global, program: &Program, globals: &[GlobalDef]) -> Result<S
     Ok(storage)
 }
 
-/// The memory at the beginning: the globals. Where a first value names what was not born before, that answers want of
-/// memory.
+/// The memory at the beginning: the globals, of which a first value names those that were born before alone.
 #[tactic(auto, unfolding(mdr_plain::specs::Storage::first_memory))]
 pub fn first_storage(alloc: Global, program: &Program) -> Result<Storage, OutOfMemory>
-    requires { HasFewNumbers program.now }
+    requires { IsSound program.now }
     ensures counted { IfOk result (λ s. IsCounted s) }
     ensures memory { IfOk result (λ s. s.blocks.memory ≡ first_memory (known_of program.now)) }
     ensures lives { IfOk result (λ s. s.lives ≡ map birth_of s.blocks.memory) }

@@ -1,4 +1,6 @@
-use Rattle.std.proofs.Common.{◌+◌, length, sym, subst, arith, rules}
+use Rattle.std.proofs.Common.{◌+◌, length, Ok, Err, refl, sym, subst, arith, rules}
+use Rattle.mdr_plan.specs.declared.plan_error.PlanError.TheVariants.{Line}
+use Rattle.mdr_plan.specs.declared.plan_error.PlanKind.TheVariants.{Form}
 use Rattle.mdr_plan.specs.declared.reader.Reader.{Reader}
 use Rattle.mdr_plan.specs.declared.unread.Unread.TheVariants.{Refused}
 use Rattle.mdr_plan.specs.Steps.{StepFails}
@@ -32,5 +34,11 @@ loop-rest-preserved c =
 pub returns-in_default : goal.returns-in_default
 returns-in_default c = open_line c.args.bytes.now c.loop-rest.rest.now c.loop-rest.number c.loop-rest.reader c.loop-rest.invariant.progress c.in_default.ensures (search rules)
 
-pub returns : goal.returns
-returns c = finished c.args.bytes.now c.loop-rest.rest.now c.loop-rest.number c.loop-rest.reader c.finish.result c.loop-rest.invariant.progress (none_left c.loop-rest.rest.now c.is_empty.result c.is_empty.ensures c.loop-rest-test.false) c.finish.ensures
+pub returns-in-Some-finish : goal.returns-in-Some-finish
+returns-in-Some-finish c =
+    finished c.args.bytes.now c.loop-rest.rest.now c.loop-rest.number c.loop-rest.reader (Ok c.in-Some-finish.plan) c.loop-rest.invariant.progress (none_left c.loop-rest.rest.now c.is_empty.result c.is_empty.ensures c.loop-rest-test.false) c.in-Some-finish.ensures
+
+pub returns-in-None : goal.returns-in-None
+returns-in-None c =
+    finished c.args.bytes.now c.loop-rest.rest.now c.loop-rest.number c.loop-rest.reader (Err (Line c.loop-rest.number Form)) c.loop-rest.invariant.progress (none_left c.loop-rest.rest.now c.is_empty.result c.is_empty.ensures c.loop-rest-test.false)
+    (c.in-None.ensures, refl)

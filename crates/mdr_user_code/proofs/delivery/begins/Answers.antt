@@ -1,6 +1,8 @@
 use Rattle.std.proofs.Common.{refl, ◌∙◌, sym, subst}
 use Rattle.mdr_meaning.specs.Bodies.{known_of}
 use Rattle.mdr_model.specs.Agreement.{SerialsRise}
+use Rattle.mdr_user_memory.specs.Kept.{IsLived}
+use Rattle.mdr_user_memory.specs.Lived.{lived_of}
 use Rattle.mdr_user_code.proofs.FirstLaws.{first_rises}
 use Rattle.mdr_user_code.proofs.FollowLaws.{begins_so}
 use Rattle.mdr_user_code.proofs.delivery.begins.Goals as goal
@@ -9,4 +11,6 @@ pub of_copy-requires : goal.of_copy-requires
 of_copy-requires c = subst SerialsRise (sym c.in_ok-agreed.ensures) (first_rises (known_of c.args.program.now))
 
 pub returns : goal.returns
-returns c = begins_so c.args.program.now c.args.plan.now _ (c.in_ok-memory.ensures ∙ c.in_ok-agreed.ensures) c.new-entered.ensures refl
+returns c =
+    begins_so c.args.program.now c.args.plan.now _ (c.in_ok-memory.ensures.copy ∙ c.in_ok-agreed.ensures) c.new-entered.ensures refl
+    (subst (λ m. IsLived (lived_of m) c.in_ok-memory.memory) c.in_ok-agreed.ensures c.in_ok-memory.ensures.lived)

@@ -7,3 +7,6 @@ returns-clause-reply c = λ before f. reply_is (driver_of c.args.program.now c.a
 
 pub returns-clause-follows : goal.returns-clause-follows
 returns-clause-follows c = λ before f. follows_on (driver_of c.args.program.now c.args.plan.now) before c.args.state.now c.reply_to.new.state c.args.message.now c.in_ok-reply.reply f c.in_ok-reply.ensures
+
+pub returns-clause-refused : goal.returns-clause-refused
+returns-clause-refused c = c.in_ok-reply.ensures.refused

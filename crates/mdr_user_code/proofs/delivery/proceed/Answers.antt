@@ -15,4 +15,4 @@ pub take-requires : goal.take-requires
 take-requires c = subst (λ (k : Kept). TellsTo (driver_in c.args.scene) k.agreed c.args.message.now c.args.turn.sight.copy) (sym c.in_ok-prepare.ensures.memory) c.requires.tells
 
 pub returns : goal.returns
-returns c = proceeds (driver_in c.args.scene) c.args.state.now c.prepare.new.state _ c.run.new.state c.take.new.memory c.args.message.now c.args.turn c.in_ok-reply.reply c.in_ok-prepare.ensures refl c.in_ok-take.ensures c.in_ok-reply.ensures
+returns c = proceeds (driver_in c.args.scene) c.args.state.now c.prepare.new.state _ c.run.new.state c.take.new.memory c.args.message.now c.args.turn c.in_ok-reply.reply c.in_ok-prepare.ensures refl c.in_ok-take.ensures.copy c.in_ok-reply.ensures.replies c.in_ok-take.ensures.lived c.in_ok-reply.ensures.past

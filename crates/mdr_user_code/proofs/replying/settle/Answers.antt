@@ -1,6 +1,6 @@
 use Rattle.std.proofs.Common.{◌≡◌, ◌-◌, ◌∙◌, sym, ap}
 use Rattle.mdr_model.specs.Copies.{put_runs}
-use Rattle.mdr_user_memory.specs.Kept.{Kept}
+use Rattle.mdr_user_memory.specs.Kept.{Kept, past_in}
 use Rattle.mdr_user_code.specs.declared.state.State.{State}
 use Rattle.mdr_user_code.specs.Replying.{awaits_as, told_as}
 use Rattle.mdr_user_code.proofs.replying.settle.Goals as goal
@@ -16,6 +16,7 @@ returns-clause-reply c =
 pub returns-clause-state : goal.returns-clause-state
 returns-clause-state c = record {
   agreed = ap (λ (k : Kept). k.agreed) c.put.ensures ∙ (c.settled-settled.ensures.memory ∙ sym c.requires.told);
+  past = ap past_in c.put.ensures ∙ c.settled-settled.ensures.past;
   machine = ap (λ (s : State). s.machine) c.in_ok-keep.ensures;
   func = ap (λ (s : State). s.func) c.in_ok-keep.ensures;
   entered = ap (λ (s : State). s.entered) c.in_ok-keep.ensures;

@@ -20,4 +20,7 @@ returns-clause-moves c =
 pub loop-i-preserved : goal.loop-i-preserved
 loop-i-preserved c =
     row_next c.args.serial c.args.first (kept_all (numbered c.args.serial c.args.first c.args.values.now)) c.args.values.now c.loop-i.i _ c.value_of.result c.args.region.now.contents c.loop-i.region.contents c.keep.new.region.contents
-    (pairs_of c.args.pairs.now) c.loop-i-test.true c.value_of.ensures c.keep.ensures.linked c.keep.ensures.moves c.loop-i.invariant
+    (pairs_of c.args.pairs.now) c.loop-i-test.true c.value_of.ensures c.keep.ensures.linked c.keep.ensures.moves c.keep.ensures.lives c.loop-i.invariant
+
+pub returns-clause-lives : goal.returns-clause-lives
+returns-clause-lives c = c.loop-i.invariant.lives

@@ -8,5 +8,5 @@ pub returns : goal.returns
 returns c =
     let m = c.args.memory.now in
     c.put.ensures
-    ∙ (ap (λ v. copied m.agreed m.view (put m.memory (record { serial = c.args.serial; index = 0 }) (normal m.memory v))) c.value_of.ensures
-    ∙ ap (λ v. copied m.agreed m.view (put m.memory (record { serial = c.args.serial; index = 0 }) v)) (normal_int m.memory c.args.integer.kind c.args.integer.number))
+    ∙ (ap (λ v. copied m.past m.agreed m.view (put m.memory (record { serial = c.args.serial; index = 0 }) (normal m.memory v))) c.value_of.ensures
+    ∙ ap (λ v. copied m.past m.agreed m.view (put m.memory (record { serial = c.args.serial; index = 0 }) v)) (normal_int m.memory c.args.integer.kind c.args.integer.number))

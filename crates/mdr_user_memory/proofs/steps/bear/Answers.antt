@@ -1,8 +1,10 @@
-use Rattle.std.proofs.Common.{◌-◌, ◌∙◌, length, ap, arith}
-use Rattle.mdr_mem.specs.Contents.{after_birth}
+use Rattle.std.proofs.Common.{◌-◌, ◌∙◌, ◌++◌, ◌∷◌, [], length, ap, arith}
+use Rattle.mdr_mem.specs.declared.cells.Life.TheVariants as life
+use Rattle.mdr_mem.specs.Contents.{Contents, after_birth}
 use Rattle.mdr_user_memory.proofs.LoopLaws.{not_err}
 use Rattle.mdr_user_memory.proofs.StepLaws.{bear_linked, bear_moves}
 use Rattle.mdr_user_memory.proofs.TwinLaws.{next_free, shape_in}
+use Rattle.mdr_user_memory.proofs.LivedLaws.{lives_born}
 use Rattle.mdr_user_memory.proofs.steps.bear.Goals as goal
 
 pub birth-requires-clause-some : goal.birth-requires-clause-some
@@ -38,3 +40,8 @@ returns-clause-cells c = c.in-Ok.ensures.cells ∙ ap (λ vs. c.args.region.now.
 
 pub returns-clause-room : goal.returns-clause-room
 returns-clause-room c = omega (arith, c.pair.ensures.one)
+
+pub returns-clause-lived : goal.returns-clause-lived
+returns-clause-lived c =
+    lives_born c.args.new.now.born.serial _ c.in-Ok.block _ _ _ _
+    (ap (λ (r : Contents). r.lives) c.in-Ok.ensures.born ∙ ap (λ vs. c.args.region.now.contents.lives ++ life.Birth (length vs) ∷ []) c.as_slice.ensures) c.pair.ensures.pairs c.in-Ok.ensures.next

@@ -11,4 +11,4 @@ invariant_of-self c = seen_put c.self.inside.agreed c.self.inside.region c.keep.
 
 pub returns : goal.returns
 returns c =
-    put_is c.self.inside.agreed c.self.inside.region c.keep.new.region c.self.inside.pairs c.self.inside.view _ (cell_in c.args.spot) (wire_of c.args.value) c.self.view_is c.self.invariant c.keep.ensures.moves
+    put_is c.self.inside.agreed c.self.inside.region c.keep.new.region c.self.inside.pairs c.self.inside.view _ (cell_in c.args.spot) (wire_of c.args.value) c.self.view_is c.self.invariant c.keep.ensures.moves c.keep.ensures.lives

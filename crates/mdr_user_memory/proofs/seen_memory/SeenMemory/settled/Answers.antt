@@ -1,6 +1,6 @@
 use Rattle.std.proofs.Common.{◌∙◌, sym, ap, subst}
 use Rattle.mdr_user_memory.specs.Copied.{Copied}
-use Rattle.mdr_user_memory.specs.Kept.{IsKept, Kept}
+use Rattle.mdr_user_memory.specs.Kept.{IsKept, Kept, past_in}
 use Rattle.mdr_user_memory.proofs.KeptLaws.{settled_is, settled_kept}
 use Rattle.mdr_user_memory.proofs.seen_memory.SeenMemory.settled.Goals as goal
 
@@ -16,3 +16,6 @@ returns-clause-memory c =
 
 pub returns-clause-view : goal.returns-clause-view
 returns-clause-view c = ap (λ (x : Copied). x.view) c.self.view_is
+
+pub returns-clause-past : goal.returns-clause-past
+returns-clause-past c = ap past_in c.user_memory.ensures ∙ ap (λ (x : Copied). x.past) c.self.view_is

@@ -1,6 +1,7 @@
 use Rattle.std.proofs.Common.{sym, subst}
-use Rattle.mdr_user_memory.specs.Kept.{IsKept}
+use Rattle.mdr_user_memory.specs.Kept.{IsKept, Kept}
 use Rattle.mdr_user_memory.proofs.KeptLaws.{kept_same, take_fresh, take_kept, take_sized}
+use Rattle.mdr_user_memory.specs.Lived.{LivesIn, lived_by}
 use Rattle.mdr_user_memory.proofs.user_memory.UserMemory.take.Goals as goal
 
 pub take_told-requires-clause-linked : goal.take_told-requires-clause-linked
@@ -23,3 +24,7 @@ invariant_of-self c =
 pub invariant_of-self-in-Err : goal.invariant_of-self-in-Err
 invariant_of-self-in-Err c =
     kept_same c.self.inside.agreed c.self.inside.region c.take_told.new.region c.self.inside.pairs c.take_told.new.pairs c.in-Err.ensures.same_memory c.in-Err.ensures.same_pairs c.self.invariant
+
+pub returns-in-Ok-clause-lived : goal.returns-in-Ok-clause-lived
+returns-in-Ok-clause-lived c =
+    subst (λ (k : Kept). LivesIn (lived_by c.args.program.now c.args.told.deaths.now c.args.told.news.now) k.region k.pairs c.take_told.new.region c.take_told.new.pairs) c.self.view_is c.in-Ok.ensures.lived
