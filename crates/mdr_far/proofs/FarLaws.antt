@@ -109,11 +109,3 @@ pub kept_empty : (s : Inside) → s.loaded ≡ None → s.half ≡ None → IsKe
 kept_empty s e f =
     let both : AreKept s.loaded s.half = subst (λ (l : Option Loaded). AreKept l s.half) (sym e) (subst (λ (h : Option HalfState). AreKept None h) (sym f) (refl, tt)) in
     record { honest = both.0; serves = both.1 }
-
--- one that was loaded holds a half
-pub half_there : (s : Inside) → IsKeptFar s → IsLoaded s.loaded → s.half ≡ None → ⊥
-half_there s kept loaded none = of s.loaded (subst (Serves s.loaded) none kept.serves) loaded
-  where
-    of : (l : Option Loaded) → Serves l None → IsLoaded l → ⊥
-    of None h k = k
-    of (Some l) h k = h k

@@ -32,14 +32,12 @@ use mdr_user_memory::UserMemory;
 use std::alloc::Global;
 use std::marker::Model;
 
-/// The user half of a driver: it gets messages and replies to them. Once memory was wanting it replies no more, and
-/// answers that want from then on.
+/// The user half of a driver: it gets messages and replies to them. Once memory was wanting it replies no more.
 #[derive(Drop)]
 pub struct UserHalf {
     program: Program,
     plan: Plan,
     state: Option<State>,
-    wanted: Option<OutOfMemory>,
     exchanges: Items<Exchange>,
 }
 
@@ -86,16 +84,6 @@ fn recorded(
     Ok(reply)
 }
 
-/// The want of memory that there was.
-fn wanting(wanted: Option<OutOfMemory>) -> OutOfMemory
-    requires { is_some wanted ≡ true }
-{
-    match wanted {
-        Some(error) => error,
-        None => unreachable!(),
-    }
-}
-
 fn half_of(alloc: Global, source: HalfSource, state: State) -> UserHalf
     requires sound { IsSound source.program }
     requires fit { IsFit source.plan source.program }
@@ -107,7 +95,6 @@ fn half_of(alloc: Global, source: HalfSource, state: State) -> UserHalf
         program,
         plan,
         state: Some(state),
-        wanted: None,
         exchanges: Items::new(alloc),
     }
 }
@@ -154,7 +141,7 @@ impl UserHalf {
         ensures held { IfOk result (λ reply. is_some self.old.memory ≡ true) }
     {
         let Some(mut state) = self.state.take() else {
-            return Err(wanting(self.wanted));
+            return Err(OutOfMemory::unmet());
         };
         let reply = reply_to(alloc, &self.program, &self.plan, &mut state, bytes);
         match recorded(alloc, &mut self.exchanges, bytes, reply) {
@@ -163,10 +150,7 @@ impl UserHalf {
                 put(&mut self.state, Some(state));
                 Ok(reply)
             }
-            Err(error) => {
-                self.wanted = Some(error);
-                given_up(error, state)
-            }
+            Err(error) => given_up(error, state),
         }
     }
 

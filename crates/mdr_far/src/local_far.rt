@@ -149,7 +149,7 @@ impl Far for LocalFar {
                 self.loaded = Some(loaded);
                 answer
             }
-            Err(error) => LoadAnswer::from(error),
+            Err(_) => LoadAnswer::OutOfMemory,
         }
     }
 
@@ -161,12 +161,12 @@ impl Far for LocalFar {
                     half.replies();
                     DeliverAnswer::Ok(Items::from_vec(reply))
                 }
-                Err(error) => {
+                Err(_) => {
                     half.replies();
-                    DeliverAnswer::from(error)
+                    DeliverAnswer::OutOfMemory
                 }
             },
-            None => unreachable!(),
+            None => DeliverAnswer::OutOfMemory,
         }
     }
 
