@@ -8,6 +8,7 @@
 #define BROKEN 2
 #define SIZE 16
 enum { CLOSED, OPEN = 1 };
+enum { SET_SPEED, GET_SPEED, GET_ERRORS };
 
 struct queue {
 	u32 head;
@@ -40,25 +41,19 @@ static struct speed speeds[3] = { {9600, 12}, {115200, 1}, {0, 0} };
 
 /* The kernel half: what an interrupt and a write do. */
 static void keep(u8 byte) {
-	struct queue *q;
-	q = &port.received;
+	struct queue *q = &port.received;
 	if (q->count == SIZE) {
-		port.counts.lost += 1;
+		port.counts.lost++;
 		return;
 	}
-	q->bytes[(q->head + q->count) % SIZE] = byte;
-	q->count += 1;
-	port.counts.got += 1;
+	q->bytes[(q->head + q->count++) % SIZE] = byte;
+	port.counts.got++;
 }
 
 static void uart_irq(void) {
-	u32 status; u32 byte;
-	status = readl(STATUS);
-	if (status & READY) {
-		byte = readl(DATA);
-		keep(byte);
-	}
-	if (status & BROKEN) port.counts.broken += 1;
+	u32 status = readl(STATUS);
+	if (status & READY) keep(readl(DATA));
+	if (status & BROKEN) port.counts.broken++;
 	writel(0, STATUS);
 }
 
@@ -69,7 +64,7 @@ __critical s32 uart_write(u32 byte) {
 		return -5;
 	}
 	writel(byte, DATA);
-	port.counts.sent += 1;
+	port.counts.sent++;
 	combounlock(&port.lock);
 	return 0;
 }
@@ -77,17 +72,13 @@ __critical s32 uart_write(u32 byte) {
 /* The user half: what happens seldom. */
 static u32 divisor_of(u32 rate) {
 	struct speed *s;
-	s = speeds;
-	while (s->rate) {
+	for (s = speeds; s->rate; s++)
 		if (s->rate == rate) return s->divisor;
-		s += 1;
-	}
 	return 0;
 }
 
 s32 uart_set_speed(u32 rate) {
-	u32 divisor;
-	divisor = divisor_of(rate);
+	u32 divisor = divisor_of(rate);
 	if (!divisor) return -22;
 	port.speed = rate;
 	writel(divisor, SPEED);
@@ -95,8 +86,7 @@ s32 uart_set_speed(u32 rate) {
 }
 
 s32 uart_open(void) {
-	s32 err;
-	err = request_irq(uart_irq);
+	s32 err = request_irq(uart_irq);
 	if (err) return err;
 	err = uart_set_speed(9600);
 	if (err) return err;
@@ -109,4 +99,17 @@ s32 uart_open(void) {
 
 u32 uart_errors(void) {
 	return port.counts.broken + port.counts.lost;
+}
+
+s32 uart_ioctl(u32 command, u32 value) {
+	switch (command) {
+	case SET_SPEED:
+		return uart_set_speed(value);
+	case GET_SPEED:
+		return port.speed;
+	case GET_ERRORS:
+		return uart_errors();
+	default:
+		return -25;
+	}
 }

@@ -60,10 +60,10 @@ class Charts(unittest.TestCase):
         self.assertEqual((status, lines[0]), (0, 'uart.c over uart.script: 26 messages, end ok'))
         for line in ('   1 |-- call uart_open() --------------------------------------------->| 88 bytes',
                      '     |   sees port.state, port.speed, port.counts.sent, speeds[0..2]    |',
-                     '   2 |<-- request_irq(&uart_irq) ---------------------------------------| 48 bytes, 2 ticks, uart_open line 99',
-                     '   4 |<-- writel(12, 3) ------------------------------------------------| 80 bytes, 12 ticks, uart_set_speed line 93',
+                     '   2 |<-- request_irq(&uart_irq) ---------------------------------------| 48 bytes, 2 ticks, uart_open line 89',
+                     '   4 |<-- writel(12, 3) ------------------------------------------------| 80 bytes, 12 ticks, uart_set_speed line 84',
                      '     |   tells port.speed = 9600                                        |',
-                     '   8 |<-- printk("uart: open at 9600\\n") -------------------------------| 60 bytes, 1 tick, uart_open line 105',
+                     '   8 |<-- printk("uart: open at 9600\\n") -------------------------------| 60 bytes, 1 tick, uart_open line 95',
                      '  26 |<-- return -22 ---------------------------------------------------| 24 bytes, 14 ticks',
                      'all                                 3        26      1188        47'):
             self.assertIn(line, lines)

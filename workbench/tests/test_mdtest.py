@@ -105,9 +105,9 @@ case it opens
 """, '--ways', 'whole,watched', '--junit', self.room / 'j.xml')
         self.assertEqual((status, lines), (1, [
             'TAP version 13', 'not ok 1 - a.mdt: it opens',
-            '# a.mdt:4: expected ret -5, came ret 0', '#     uart.c:107:2: uart_open 12: return err;',
-            '# a.mdt:5: expected W SPEED 12 then W DATA 1, came W 3 12; W 2 1; log uart: open at 9600\\n; W 0 0; ret 0', '#     uart.c:93:2: uart_set_speed 6: writel(divisor, SPEED);',
-            '# a.mdt:6: expected port.state CLOSED, came port.state 1', '#     uart.c:103:2: uart_open 8: port.state = OPEN;',
+            '# a.mdt:4: expected ret -5, came ret 0', '#     uart.c:97:2: uart_open 11: return err;',
+            '# a.mdt:5: expected W SPEED 12 then W DATA 1, came W 3 12; W 2 1; log uart: open at 9600\\n; W 0 0; ret 0', '#     uart.c:84:2: uart_set_speed 5: writel(divisor, SPEED);',
+            '# a.mdt:6: expected port.state CLOSED, came port.state 1', '#     uart.c:93:2: uart_open 7: port.state = OPEN;',
             '1..1', '# 0 passed, 1 failed']))
         suite = xml.parse(self.room / 'j.xml').getroot()[0]
         self.assertEqual((suite.get('tests'), suite.get('failures'), suite[0].get('name'), suite[0][0].tag), ('1', '1', 'it opens', 'failure'))
