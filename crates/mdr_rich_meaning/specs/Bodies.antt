@@ -1,4 +1,4 @@
--- for proofs
+-- protocol
 -- The tree of a function of a source, with fuel, as that of a program's function.
 use Rattle.std.specs.Prelude.{ℕ, zero, suc, List, []}
 use Rattle.mdr_core.specs.declared.stop.StopKind.TheVariants as stop

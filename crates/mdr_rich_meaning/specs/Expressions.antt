@@ -1,4 +1,4 @@
--- for proofs
+-- protocol
 -- The meaning of a source's expressions (C99 6.5): what takes ticks of its own in them is done first, from left to right, and the rest waits for the tick of what it stands in.
 use Rattle.std.specs.Prelude.{ℕ, suc, Bool, not, ◌&&◌, ◌==◌, nat_lt, List, [], Option, Some, None, Ok}
 use Rattle.mdr_core.specs.declared.place.At.{At}

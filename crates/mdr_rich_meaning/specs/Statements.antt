@@ -1,4 +1,4 @@
--- for proofs
+-- protocol
 -- The meaning of a source's statements (C99 6.7, 6.8): what takes ticks of its own in their expressions is done first, and the statement's own tick comes last.
 use Rattle.std.specs.Prelude.{ℕ, Bool, true, false, pos, List, Option, Some, None, slice_get}
 use Rattle.mdr_core.specs.declared.kind.Kind.TheVariants.{S32}

@@ -1,4 +1,4 @@
--- for proofs
+-- protocol
 -- Evaluations that wait for their tick: what is left of an expression when all that takes ticks of its own in it is done.
 use Rattle.std.specs.Prelude.{ℕ, Bool, true, false, not, List, [], ◌∷◌, pos, Result, Ok, slice_set}
 use Rattle.mdr_core.specs.declared.code.BinOp.{BinOp}

@@ -1,4 +1,4 @@
--- for proofs
+-- protocol
 -- The bodies of a source's functions as they were written, by the functions' numbers, and what a driver's halves mean by them (C99 6.9.1).
 use Rattle.std.specs.Prelude.{ℕ, Bool, true, false, List, [], ◌∷◌, ◌++◌, map, Option, Some, None, slice_get, slice_set}
 use Rattle.mdr_core.specs.declared.program.Program.{Program}

@@ -1,4 +1,4 @@
--- for proofs
+-- protocol
 -- The watched run of a driver and a script, over any meaning of its functions: what each of its halves' functions is started as.
 use Rattle.std.specs.Prelude.{ℕ, zero, suc, Bool, true, false, not, List, [], map, Option, Some, None}
 use Rattle.mdr_core.specs.declared.place.At.{At}
