@@ -67,6 +67,9 @@ does_cut seen words before after due text offered same is d c = Does.cut due tex
 pub does_part : (seen words : List (List ℕ)) (before after : Outside) → seen ≡ words → DonePart seen before.sides after.sides → after.out ≡ before.out → Does words before after status.OutOfMemory
 does_part seen words before after same d out = Does.nothing refl (subst (λ (ws : List (List ℕ)). DonePart ws before.sides after.sides) same d) out
 
+pub does_wanting : (seen words : List (List ℕ)) (before after : Outside) (s : Status) → s ≡ status.OutOfMemory → seen ≡ words → DonePart seen before.sides after.sides → after.out ≡ before.out → Does words before after s
+does_wanting seen words before after s is same d out = subst (λ (t : Status). Does words before after t) (sym is) (does_part seen words before after same d out)
+
 -- ---- what is printed
 
 ran_so : (inputs : Inputs) (in_way : Way) (before after : Sides) (s : Status) (text : List ℕ) → RunDone inputs in_way before after s text → RunAnswered inputs before.shelf.files (WayDue in_way after.far.loaded after.far.exchanges s text) s text
