@@ -5,7 +5,8 @@ ghost use Rattle.std.specs.Option.{option_copied, option_map};
 ghost use Rattle.mdr_core.specs.Folds.{call_of, called_of, code_of, codes_of, goal_of, lvalue_of, term_of};
 ghost use Rattle.mdr_core.specs.Typing.{slots_of};
 ghost use Rattle.mdr_slice.specs.Calls.{body_code};
-ghost use Rattle.mdr_access.specs.Exposed.{field_key, named_field, term_fields, lvalue_fields, all_term_fields, called_fields, call_fields, goal_fields, option_fields, code_fields, all_code_fields, funcs_fields, exposed_fields};
+ghost use Rattle.mdr_access.specs.Exposed.{field_key, named_field, term_fields, lvalue_fields, all_term_fields, called_fields, call_fields};
+ghost use Rattle.mdr_access.specs.Exposed.{goal_fields, option_fields, code_fields, all_code_fields, funcs_fields, exposed_fields};
 
 use mdr_core::{CallForm, Callee, Expr, Func, Key, Lval, Program, Step, Stmt, Ty};
 use mdr_slice::named_type;

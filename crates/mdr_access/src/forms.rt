@@ -11,7 +11,8 @@ ghost use Rattle.mdr_core.specs.Typing.{slots_of};
 ghost use Rattle.mdr_slice.specs.Calls.{body_code};
 ghost use Rattle.mdr_slice.specs.Pointed.{slot_type};
 ghost use Rattle.mdr_access.specs.Exposed.{field_key};
-ghost use Rattle.mdr_access.specs.Forms.{Follow, Whole, touches, wholes, follows, named_cells, term_forms, place_forms, all_term_forms, stored_forms, called_forms, call_forms, goal_forms, option_forms, is_object, declared_forms, code_forms, all_code_forms, param_forms, func_forms};
+ghost use Rattle.mdr_access.specs.Forms.{Follow, Whole, touches, wholes, follows, named_cells, term_forms, place_forms, all_term_forms, stored_forms};
+ghost use Rattle.mdr_access.specs.Forms.{called_forms, call_forms, goal_forms, option_forms, is_object, declared_forms, code_forms, all_code_forms, param_forms, func_forms};
 ghost use Rattle.mdr_access.specs.Told.{form_of};
 
 use mdr_core::{CallForm, Callee, Expr, Func, Key, Lval, Param, Program, Step, Stmt, Ty};

@@ -3,7 +3,8 @@
 ghost use Rattle.std.specs.Prelude.{◌≡◌, IfOk};
 ghost use Rattle.mdr_operand.specs.declared.operand.Scalar.{Scalar};
 ghost use Rattle.mdr_faults.specs.Faults.{Checked, told, both};
-ghost use Rattle.mdr_binary.specs.Binaries.{voids_equal, pointers_equal, equality_of_values, has_null, equality, pointers_ordered, order_of_values, order, is_equality, pointers_compared, are_numbers, comparison_of};
+ghost use Rattle.mdr_binary.specs.Binaries.{voids_equal, pointers_equal, equality_of_values, has_null, equality, pointers_ordered};
+ghost use Rattle.mdr_binary.specs.Binaries.{order_of_values, order, is_equality, pointers_compared, are_numbers, comparison_of};
 
 use crate::number::numbers_compared;
 use crate::pointer::given_up;

@@ -6,7 +6,8 @@ ghost use Rattle.mdr_rich.specs.declared.code.Expr.TheVariants as expr;
 ghost use Rattle.mdr_operand.specs.declared.operand.Scalar.{Scalar};
 ghost use Rattle.mdr_faults.specs.Faults.{Checked, Right, told, both};
 ghost use Rattle.mdr_operand.specs.Forms.{null_pointer, truth};
-ghost use Rattle.mdr_binary.specs.Binaries.{compared, address_by, address_at, null_or_address, null_compared, have_one_object, have_one_function, have_one_type, have_one_void, void_of, values_compared, voids_compared, both_true, either_true, conjunction, disjunction};
+ghost use Rattle.mdr_binary.specs.Binaries.{compared, address_by, address_at, null_or_address, null_compared, have_one_object, have_one_function, have_one_type};
+ghost use Rattle.mdr_binary.specs.Binaries.{have_one_void, void_of, values_compared, voids_compared, both_true, either_true, conjunction, disjunction};
 
 use mdr_core::{Boxed, Place, RelOp, Value};
 use mdr_faults::{Fault, are_alike, both, is_alike};

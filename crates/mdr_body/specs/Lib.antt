@@ -6,3 +6,4 @@ pub mod Clauses
 pub mod Simple
 pub mod Statements
 pub mod Bodies
+pub mod Pieces

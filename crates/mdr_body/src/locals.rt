@@ -5,11 +5,17 @@ ghost use Rattle.std.specs.Option.{option_map, option_copied};
 ghost use Rattle.mdr_core.specs.declared.types.Ty.{Ty};
 ghost use Rattle.mdr_faults.specs.declared.scope.Object.{Object};
 ghost use Rattle.mdr_faults.specs.Faults.{Checked, told, after, demand};
-ghost use Rattle.mdr_faults.specs.declared.fault.FaultKind.TheVariants.{Redefined, Mismatch, Limit};
+ghost use Rattle.mdr_faults.specs.declared.fault.FaultKind.TheVariants.{Mismatch};
 ghost use Rattle.mdr_syntax.specs.declared.tree.Decl.{Decl, out-Decl};
 ghost use Rattle.mdr_operand.specs.Written.{written_of, lines_of};
 ghost use Rattle.mdr_headings.specs.Within.{beside, within};
-ghost use Rattle.mdr_body.specs.Locals.{flag, holds_lock, object_lock, member_lock, any_lock, locks_behind, struct_locks, without_lock, local_object, is_own_object, lies_apart, name_of, named_local, local_of, is_in_block, is_again, has_place, is_no_constant, has_no_size, local_whole, names_here, local_declared, with_local, takes, entered, left, numbered, parameter_object, parameter_means, parameter_taken, parameters_from, first_here};
+ghost use Rattle.mdr_body.specs.Locals.{flag, holds_lock, object_lock, member_lock, any_lock, locks_behind};
+ghost use Rattle.mdr_body.specs.Locals.{struct_locks, without_lock, local_object, is_own_object, lies_apart, name_of};
+ghost use Rattle.mdr_body.specs.Locals.{named_local, local_of, is_in_block, is_again, has_place, is_no_constant};
+ghost use Rattle.mdr_body.specs.Locals.{has_no_size, local_whole, names_here, local_declared, with_local, takes};
+ghost use Rattle.mdr_body.specs.Locals.{entered, left, numbered, parameter_object, parameter_means, parameter_taken};
+ghost use Rattle.mdr_body.specs.Locals.{parameters_from, first_here};
+ghost use Rattle.mdr_body.specs.Pieces.{named_once};
 
 use crate::address::{perhaps_takes, takes_along};
 use crate::here::{DeclaredLocal, Here};
@@ -223,7 +229,7 @@ fn local_rule(
     name: &[u8],
     c: Result<Local, Fault>,
 ) -> Result<Local, Fault>
-    ensures { (d : Checked Local) → c ≡ told d → result ≡ told (demand place Redefined (not (is_again here.now.first name.now here.now.names)) (demand place Limit (has_place (length here.now.locals) name.now) d)) }
+    ensures { (d : Checked Local) → c ≡ told d → result ≡ told (named_once here.now place name.now d) }
 {
     let few = demanded(
         place,

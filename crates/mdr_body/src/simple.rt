@@ -1,20 +1,21 @@
 // Statements without parts (C99 6.7, 6.8.3, 6.8.6).
 
-ghost use Rattle.std.specs.Prelude.{◌≡◌, ℕ, Bool, false, ◌∷◌, ◌++◌, [], IfOk, OnOk, Ok, length, None};
+ghost use Rattle.std.specs.Prelude.{◌≡◌, ℕ, Bool, ◌∷◌, ◌++◌, [], IfOk, OnOk, Ok, length, None};
 ghost use Rattle.std.specs.Option.{option_map, option_copied};
 ghost use Rattle.mdr_rich.specs.declared.code.Expr.{Expr};
 ghost use Rattle.mdr_rich.specs.declared.code.Step.{Step};
 ghost use Rattle.mdr_core.specs.Layout.{chosen};
 ghost use Rattle.mdr_faults.specs.declared.fault.FaultKind.TheVariants.{Mismatch};
 ghost use Rattle.mdr_faults.specs.Faults.{Checked, Right, refuse, told, after};
-ghost use Rattle.mdr_faults.specs.declared.scope.Object.{Object};
-ghost use Rattle.mdr_core.specs.declared.types.Ty.{Ty};
 ghost use Rattle.mdr_operand.specs.Written.{written_of, written_what};
-ghost use Rattle.mdr_body.specs.Locals.{with_local, is_own_object, local_object};
+ghost use Rattle.mdr_body.specs.Locals.{with_local};
 ghost use Rattle.mdr_body.specs.Addresses.{line_what};
-ghost use Rattle.mdr_body.specs.declared.here.Here.{Here};
-ghost use Rattle.mdr_body.specs.Simple.{declares};
-ghost use Rattle.mdr_body.specs.Statements.{stmt, stated, tested, condition, some, perhaps_condition, text_of, takes_text, is_single, own_place, initial_by, initial_step, declared_then, local_made, jumped, bare_return, value_return, return_by, return_step, broken, simple_made, simple_behind};
+ghost use Rattle.mdr_body.specs.Simple.{IsPlain};
+ghost use Rattle.mdr_body.specs.Statements.{stmt, stated, tested, condition, some, perhaps_condition, text_of};
+ghost use Rattle.mdr_body.specs.Statements.{takes_text, is_single, own_place, initial_by, declared_then};
+ghost use Rattle.mdr_body.specs.Statements.{local_made, jumped, bare_return, value_return, return_by, return_step};
+ghost use Rattle.mdr_body.specs.Statements.{broken, simple_made, simple_behind};
+ghost use Rattle.mdr_body.specs.Pieces.{initial_among, initialised};
 
 use crate::here::{Breaks, Frame, Here, Jumps};
 use crate::locals::{declare_local, is_own_object, local_object};
@@ -211,8 +212,7 @@ fn initial_by<R: Typing>(
 }
 
 /// The initialiser of a local, whose name is the last there.
-#[tactic(auto, unfolding(crate::specs::Statements::initial_step))]
-fn initial_step<R: Typing>(
+fn initial_among<R: Typing>(
     alloc: Global,
     rules: &R,
     scope: &Scope,
@@ -223,7 +223,7 @@ fn initial_step<R: Typing>(
     d: &Decl,
     form: &Form,
 ) -> Result<Result<Step, Fault>, OutOfMemory>
-    ensures { (before : Here) → slot ≡ before.slot → names.now ≡ (with_local scope.now frame.now.locks is_taken d.now before).names → IfOk result (λ r. r ≡ told (initial_step (R.rules rules.now) scope.now frame.now before is_taken d.now (written_of form.now))) }
+    ensures { IfOk result (λ r. r ≡ told (initial_among (R.rules rules.now) scope.now frame.now names.now slot is_taken d.now (written_of form.now))) }
 {
     match local_object(alloc, scope, frame.locks.as_slice(), d)? {
         Ok(o) => initial_by(
@@ -265,16 +265,16 @@ fn initialised<R: Typing>(
     d: &Decl,
     form: &Form,
 ) -> Result<Result<Items<Stmt>, Fault>, OutOfMemory>
-    ensures { (before : Here) → slot ≡ before.slot → here.now ≡ with_local scope.now frame.now.locks is_taken d.now before → IfOk result (λ r. r ≡ told (after (initial_step (R.rules rules.now) scope.now frame.now before is_taken d.now (written_of form.now)) (declared_then here.now.number slot))) }
+    ensures { IfOk result (λ r. r ≡ told (initialised (R.rules rules.now) scope.now frame.now here.now slot is_taken d.now (written_of form.now))) }
 {
     let declared = single(alloc, here.number, Step::Declare(slot))?;
     let names = here.names.as_slice();
-    let step = initial_step(alloc, rules, scope, frame, names, slot, is_taken, d, form)?;
+    let step = initial_among(alloc, rules, scope, frame, names, slot, is_taken, d, form)?;
     Ok(declared_then(declared, here.number, step)?)
 }
 
 /// A declaration of a local, and its initialiser.
-#[tactic(auto, unfolding(crate::specs::Statements::local_made, crate::specs::Locals::with_local))]
+#[tactic(auto, unfolding(crate::specs::Statements::local_made, crate::specs::Statements::initial_step, crate::specs::Locals::with_local))]
 pub fn local_made<R: Typing>(
     alloc: Global,
     rules: &R,
@@ -471,7 +471,7 @@ fn plain_made<R: Typing>(
     place: Place,
     what: &NodeWhat,
 ) -> Result<Result<Items<Stmt>, Fault>, OutOfMemory>
-    ensures { (t : Bool) → declares (line_what what.now place) ≡ false → IfOk result (λ r. r ≡ told (simple_made (R.rules rules.now) scope.now frame.now jumps here.now t (line_what what.now place))) }
+    ensures { (t : Bool) → IsPlain what.now place → IfOk result (λ r. r ≡ told (simple_made (R.rules rules.now) scope.now frame.now jumps here.now t (line_what what.now place))) }
 {
     match what {
         NodeWhat::Empty => empty(alloc, here.number),

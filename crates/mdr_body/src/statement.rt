@@ -1,18 +1,25 @@
 // Statements with parts, and blocks (C99 6.8.2, 6.8.4, 6.8.5).
 
-ghost use Rattle.std.specs.Prelude.{◌≡◌, ◌||◌, ◌+◌, ◌<◌, IfOk, OnOk, List, [], drop, length, false, true};
+ghost use Rattle.std.specs.Prelude.{◌≡◌, ◌||◌, ◌+◌, ◌<◌, IfOk, OnOk, List, [], drop, length, false};
 ghost use Rattle.std.specs.Option.{option_map};
 ghost use Rattle.mdr_rich.specs.declared.code.Expr.{Expr};
 ghost use Rattle.mdr_rich.specs.declared.code.Stmt.{Stmt};
-ghost use Rattle.mdr_faults.specs.declared.fault.FaultKind.TheVariants.{Mismatch};
-ghost use Rattle.mdr_faults.specs.Faults.{Checked, told, both, demand};
+ghost use Rattle.mdr_faults.specs.Faults.{Checked, told, both};
 ghost use Rattle.mdr_operand.specs.declared.operand.Integer.{Integer};
-ghost use Rattle.mdr_operand.specs.Written.{written_of, line_of, lines_of, clause_of, clauses_of, perhaps};
-ghost use Rattle.mdr_body.specs.Locals.{is_taken, entered, left, numbered};
+ghost use Rattle.mdr_operand.specs.Written.{written_of, line_of, lines_of, clause_of, clauses_of};
+ghost use Rattle.mdr_body.specs.Locals.{is_taken, numbered};
 ghost use Rattle.mdr_body.specs.Addresses.{perhaps_takes, takes_at, takes_along, line_what};
-ghost use Rattle.mdr_body.specs.Labels.{labels_made, labels_behind};
-ghost use Rattle.mdr_body.specs.Clauses.{clause_place, ends, is_last, made_clause};
-ghost use Rattle.mdr_body.specs.Statements.{no_jumps, loop_jumps, clause_jumps, inner_jumps, jumps_before, condition, perhaps_condition, pair, taken_behind, head_taken, heads_made, heads_behind, steps_made, steps_behind, ForHead, for_head, behind_head, as_part, if_of, while_of, for_of, do_of, switch_of, tested_value, tested_at, simple_made, simple_behind, line_behind, perhaps_behind, lines_behind, line_made, perhaps_made, lines_made, clauses_behind, clauses_made};
+ghost use Rattle.mdr_body.specs.Labels.{labels_behind};
+ghost use Rattle.mdr_body.specs.Clauses.{is_last};
+ghost use Rattle.mdr_body.specs.Statements.{no_jumps, loop_jumps, clause_jumps, inner_jumps, jumps_before, condition};
+ghost use Rattle.mdr_body.specs.Statements.{pair, taken_behind, head_taken, steps_made, steps_behind, ForHead, as_part};
+ghost use Rattle.mdr_body.specs.Statements.{if_of, while_of, for_of, do_of, tested_value, tested_at, simple_made};
+ghost use Rattle.mdr_body.specs.Statements.{simple_behind, line_behind, perhaps_behind, lines_behind, line_made};
+ghost use Rattle.mdr_body.specs.Statements.{perhaps_made, lines_made, clauses_behind, clauses_made};
+ghost use Rattle.mdr_body.specs.Pieces.{init_made, init_behind, init_and_test, head_made, head_behind, half_made};
+ghost use Rattle.mdr_body.specs.Pieces.{half_behind, part_of, while_line, for_line, do_line, switch_line, loop_made};
+ghost use Rattle.mdr_body.specs.Pieces.{statement_made, statement_behind, clause_made, ended_made, block_made};
+ghost use Rattle.mdr_body.specs.Pieces.{block_behind};
 
 use crate::address::{perhaps_takes, perhaps_takes_at, takes_along, takes_at};
 use crate::clauses::{
@@ -68,7 +75,7 @@ pub fn taken_at(n: &Node, nodes: &[Node], i: usize) -> bool
 }
 
 fn tail_takes(test: &Option<Form>, step: &Option<Boxed<Node>>, body: &Node, name: &[u8]) -> bool
-    ensures { result ≡ (perhaps_takes name.now (option_map written_of test.now) || (takes_along name.now (perhaps (option_map line_of step.now)) false || takes_at name.now (line_of body.now))) }
+    ensures { result ≡ (perhaps_takes name.now (option_map written_of test.now) || (takes_along name.now (part_of step.now) false || takes_at name.now (line_of body.now))) }
 {
     perhaps_takes(test, name) || perhaps_takes_at(step, name) || takes_at(body, name)
 }
@@ -81,7 +88,7 @@ fn taken_behind(
     step: &Option<Boxed<Node>>,
     body: &Node,
 ) -> bool
-    ensures { result ≡ taken_behind name.now (option_map written_of init.now) (lines_of rest.now) (option_map written_of test.now) (perhaps (option_map line_of step.now)) (line_of body.now) }
+    ensures { result ≡ taken_behind name.now (option_map written_of init.now) (lines_of rest.now) (option_map written_of test.now) (part_of step.now) (line_of body.now) }
 {
     match name {
         None => false,
@@ -100,7 +107,7 @@ fn head_taken_at(
     step: &Option<Boxed<Node>>,
     body: &Node,
 ) -> bool
-    ensures { result ≡ head_taken (line_what what.now place) (lines_of rest.now) (option_map written_of test.now) (perhaps (option_map line_of step.now)) (line_of body.now) }
+    ensures { result ≡ head_taken (line_what what.now place) (lines_of rest.now) (option_map written_of test.now) (part_of step.now) (line_of body.now) }
 {
     match what {
         NodeWhat::Local(d, init) => taken_behind(&d.name, init, rest, test, step, body),
@@ -126,7 +133,7 @@ fn head_taken(
     step: &Option<Boxed<Node>>,
     body: &Node,
 ) -> bool
-    ensures { result ≡ head_taken (line_of n.now) (lines_of rest.now) (option_map written_of test.now) (perhaps (option_map line_of step.now)) (line_of body.now) }
+    ensures { result ≡ head_taken (line_of n.now) (lines_of rest.now) (option_map written_of test.now) (part_of step.now) (line_of body.now) }
 {
     head_taken_at(n.place, &n.what, rest, test, step, body)
 }
@@ -140,7 +147,7 @@ pub fn head_taken_in(
     body: &Node,
 ) -> bool
     requires { i < length nodes.now }
-    ensures { result ≡ head_taken (line_of n.now) (lines_of (drop (i + 1) nodes.now)) (option_map written_of test.now) (perhaps (option_map line_of step.now)) (line_of body.now) }
+    ensures { result ≡ head_taken (line_of n.now) (lines_of (drop (i + 1) nodes.now)) (option_map written_of test.now) (part_of step.now) (line_of body.now) }
 {
     head_taken(n, &nodes[i + 1..], test, step, body)
 }
@@ -337,8 +344,8 @@ fn heads<R: Typing>(
     body: &Node,
     init: &[Node],
 ) -> Result<Result<Items<Stmt>, Fault>, OutOfMemory>
-    ensures told { IfOk result (λ r. r ≡ told (heads_made (R.rules rules.now) scope.now frame.now here.old (option_map written_of test.now) (perhaps (option_map line_of step.now)) (line_of body.now) (lines_of init.now))) }
-    ensures grown { OnOk result (here.new ≡ heads_behind scope.now frame.now here.old (option_map written_of test.now) (perhaps (option_map line_of step.now)) (line_of body.now) (lines_of init.now)) }
+    ensures told { IfOk result (λ r. r ≡ told (init_made (R.rules rules.now) scope.now frame.now here.old init.now test.now step.now body.now)) }
+    ensures grown { OnOk result (here.new ≡ init_behind scope.now frame.now here.old init.now test.now step.now body.now) }
 {
     let mut all = Ok(Items::new(alloc));
     for i in 0..init.len() {
@@ -370,8 +377,8 @@ fn init_and_test<R: Typing>(
     step: &Option<Boxed<Node>>,
     body: &Node,
 ) -> Result<Result<(Items<Stmt>, Option<Expr>), Fault>, OutOfMemory>
-    ensures told { IfOk result (λ r. r ≡ told (both (heads_made (R.rules rules.now) scope.now frame.now here.old (option_map written_of test.now) (perhaps (option_map line_of step.now)) (line_of body.now) (lines_of init.now)) (perhaps_condition (R.rules rules.now) scope.now (heads_behind scope.now frame.now here.old (option_map written_of test.now) (perhaps (option_map line_of step.now)) (line_of body.now) (lines_of init.now)) place (option_map written_of test.now)) pair)) }
-    ensures grown { OnOk result (here.new ≡ heads_behind scope.now frame.now here.old (option_map written_of test.now) (perhaps (option_map line_of step.now)) (line_of body.now) (lines_of init.now)) }
+    ensures told { IfOk result (λ r. r ≡ told (init_and_test (R.rules rules.now) scope.now frame.now here.old place init.now test.now step.now body.now)) }
+    ensures grown { OnOk result (here.new ≡ init_behind scope.now frame.now here.old init.now test.now step.now body.now) }
 {
     let first = heads(alloc, rules, scope, frame, here, test, step, body, init)?;
     let second = perhaps_condition(alloc, rules, scope, here, place, test)?;
@@ -386,8 +393,8 @@ fn last_part<R: Typing>(
     here: &mut Here,
     step: &Option<Boxed<Node>>,
 ) -> Result<Result<Items<Stmt>, Fault>, OutOfMemory>
-    ensures told { IfOk result (λ r. r ≡ told (steps_made (R.rules rules.now) scope.now frame.now here.old (perhaps (option_map line_of step.now)))) }
-    ensures grown { OnOk result (here.new ≡ steps_behind scope.now frame.now here.old (perhaps (option_map line_of step.now))) }
+    ensures told { IfOk result (λ r. r ≡ told (steps_made (R.rules rules.now) scope.now frame.now here.old (part_of step.now))) }
+    ensures grown { OnOk result (here.new ≡ steps_behind scope.now frame.now here.old (part_of step.now)) }
 {
     match step {
         None => Ok(Ok(Items::new(alloc))),
@@ -403,8 +410,8 @@ fn last_counted<R: Typing>(
     here: &mut Here,
     step: &Option<Boxed<Node>>,
 ) -> Result<Result<Items<Stmt>, Fault>, OutOfMemory>
-    ensures told { IfOk result (λ r. r ≡ told (steps_made (R.rules rules.now) scope.now frame.now here.old (perhaps (option_map line_of step.now)))) }
-    ensures grown { OnOk result (here.new ≡ numbered (steps_behind scope.now frame.now here.old (perhaps (option_map line_of step.now)))) }
+    ensures told { IfOk result (λ r. r ≡ told (steps_made (R.rules rules.now) scope.now frame.now here.old (part_of step.now))) }
+    ensures grown { OnOk result (here.new ≡ numbered (steps_behind scope.now frame.now here.old (part_of step.now))) }
 {
     let made = last_part(alloc, rules, scope, frame, here, step)?;
     count(here)?;
@@ -425,8 +432,8 @@ pub fn for_head<R: Typing>(
     step: &Option<Boxed<Node>>,
     body: &Node,
 ) -> Result<Result<((Items<Stmt>, Option<Expr>), Items<Stmt>), Fault>, OutOfMemory>
-    ensures told { IfOk result (λ r. r ≡ told (for_head (R.rules rules.now) scope.now frame.now here.old place (lines_of init.now) (option_map written_of test.now) (perhaps (option_map line_of step.now)) (line_of body.now))) }
-    ensures grown { OnOk result (here.new ≡ behind_head scope.now frame.now here.old (lines_of init.now) (option_map written_of test.now) (perhaps (option_map line_of step.now)) (line_of body.now)) }
+    ensures told { IfOk result (λ r. r ≡ told (head_made (R.rules rules.now) scope.now frame.now here.old place init.now test.now step.now body.now)) }
+    ensures grown { OnOk result (here.new ≡ head_behind scope.now frame.now here.old init.now test.now step.now body.now) }
 {
     let two = init_and_test(
         alloc, rules, scope, frame, here, place, init, test, step, body,
@@ -595,7 +602,7 @@ fn line_at<R: Typing>(
             rules,
             scope,
             frame,
-            clause_jumps(jumps),
+            jumps,
             here,
             place,
             clauses.as_slice(),
@@ -620,8 +627,8 @@ fn if_half<R: Typing>(
     one: &Node,
     e: &Form,
 ) -> Result<Result<(Expr, Items<Stmt>), Fault>, OutOfMemory>
-    ensures told { IfOk result (λ r. r ≡ told (both (condition (R.rules rules.now) scope.now here.old place (written_of e.now)) (line_made (R.rules rules.now) scope.now frame.now jumps true (numbered here.old) false (line_of one.now)) pair)) }
-    ensures grown { OnOk result (here.new ≡ line_behind scope.now frame.now (numbered here.old) false (line_of one.now)) }
+    ensures told { IfOk result (λ r. r ≡ told (half_made (R.rules rules.now) scope.now frame.now jumps here.old place e.now one.now)) }
+    ensures grown { OnOk result (here.new ≡ half_behind scope.now frame.now here.old one.now) }
 {
     let head = condition_counted(alloc, rules, scope, here, place, e)?;
     match line(alloc, rules, scope, frame, jumps, true, here, false, one) {
@@ -641,8 +648,8 @@ fn perhaps_line<R: Typing>(
     here: &mut Here,
     n: &Option<Boxed<Node>>,
 ) -> Result<Result<Items<Stmt>, Fault>, OutOfMemory>
-    ensures told { IfOk result (λ r. r ≡ told (perhaps_made (R.rules rules.now) scope.now frame.now jumps here.old (perhaps (option_map line_of n.now)))) }
-    ensures grown { OnOk result (here.new ≡ perhaps_behind scope.now frame.now here.old (perhaps (option_map line_of n.now))) }
+    ensures told { IfOk result (λ r. r ≡ told (perhaps_made (R.rules rules.now) scope.now frame.now jumps here.old (part_of n.now))) }
+    ensures grown { OnOk result (here.new ≡ perhaps_behind scope.now frame.now here.old (part_of n.now)) }
 {
     match n {
         None => Ok(Ok(Items::new(alloc))),
@@ -671,8 +678,8 @@ fn while_made<R: Typing>(
     body: &Node,
     e: &Form,
 ) -> Result<Result<Items<Stmt>, Fault>, OutOfMemory>
-    ensures told { IfOk result (λ r. r ≡ told (both (condition (R.rules rules.now) scope.now here.old place (written_of e.now)) (line_made (R.rules rules.now) scope.now frame.now loop_jumps true (numbered here.old) false (line_of body.now)) (while_of here.old.number))) }
-    ensures grown { OnOk result (here.new ≡ line_behind scope.now frame.now (numbered here.old) false (line_of body.now)) }
+    ensures told { IfOk result (λ r. r ≡ told (loop_made (R.rules rules.now) scope.now frame.now here.old (while_line place e.now body.now))) }
+    ensures grown { OnOk result (here.new ≡ statement_behind scope.now frame.now here.old (while_line place e.now body.now)) }
 {
     let n = here.number;
     let head = condition_counted(alloc, rules, scope, here, place, e)?;
@@ -705,8 +712,8 @@ fn for_made<R: Typing>(
     test: &Option<Form>,
     step: &Option<Boxed<Node>>,
 ) -> Result<Result<Items<Stmt>, Fault>, OutOfMemory>
-    ensures told { IfOk result (λ r. r ≡ told (both (for_head (R.rules rules.now) scope.now frame.now (entered here.old) place (lines_of init.now) (option_map written_of test.now) (perhaps (option_map line_of step.now)) (line_of body.now)) (line_made (R.rules rules.now) scope.now frame.now loop_jumps true (behind_head scope.now frame.now (entered here.old) (lines_of init.now) (option_map written_of test.now) (perhaps (option_map line_of step.now)) (line_of body.now)) false (line_of body.now)) (for_of here.old.number))) }
-    ensures grown { OnOk result (here.new ≡ left here.old (line_behind scope.now frame.now (behind_head scope.now frame.now (entered here.old) (lines_of init.now) (option_map written_of test.now) (perhaps (option_map line_of step.now)) (line_of body.now)) false (line_of body.now))) }
+    ensures told { IfOk result (λ r. r ≡ told (loop_made (R.rules rules.now) scope.now frame.now here.old (for_line place init.now test.now step.now body.now))) }
+    ensures grown { OnOk result (here.new ≡ statement_behind scope.now frame.now here.old (for_line place init.now test.now step.now body.now)) }
 {
     let n = here.number;
     let names = here.names.len();
@@ -745,8 +752,8 @@ fn do_made<R: Typing>(
     body: &Node,
     e: &Form,
 ) -> Result<Result<Items<Stmt>, Fault>, OutOfMemory>
-    ensures told { IfOk result (λ r. r ≡ told (both (line_made (R.rules rules.now) scope.now frame.now loop_jumps true (numbered here.old) false (line_of body.now)) (condition (R.rules rules.now) scope.now (line_behind scope.now frame.now (numbered here.old) false (line_of body.now)) place (written_of e.now)) (do_of here.old.number))) }
-    ensures grown { OnOk result (here.new ≡ line_behind scope.now frame.now (numbered here.old) false (line_of body.now)) }
+    ensures told { IfOk result (λ r. r ≡ told (loop_made (R.rules rules.now) scope.now frame.now here.old (do_line place body.now e.now))) }
+    ensures grown { OnOk result (here.new ≡ statement_behind scope.now frame.now here.old (do_line place body.now e.now)) }
 {
     let n = here.number;
     count(here)?;
@@ -779,12 +786,13 @@ fn switch_made<R: Typing>(
     clauses: &[Clause],
     e: &Form,
 ) -> Result<Result<Items<Stmt>, Fault>, OutOfMemory>
-    ensures told { IfOk result (λ r. r ≡ told (both (tested_value (R.rules rules.now) scope.now here.old place (written_of e.now)) (clauses_made (R.rules rules.now) scope.now frame.now jumps (numbered here.old) (tested_at place (tested_value (R.rules rules.now) scope.now here.old place (written_of e.now))) [] (clauses_of clauses.now)) (switch_of here.old.number))) }
-    ensures grown { OnOk result (here.new ≡ clauses_behind scope.now frame.now (numbered here.old) (clauses_of clauses.now)) }
+    ensures told { IfOk result (λ r. r ≡ told (statement_made (R.rules rules.now) scope.now frame.now jumps here.old (switch_line place e.now clauses.now))) }
+    ensures grown { OnOk result (here.new ≡ statement_behind scope.now frame.now here.old (switch_line place e.now clauses.now)) }
 {
     let n = here.number;
     let value = tested_counted(alloc, rules, scope, here, place, e)?;
     let at = tested_at(place, &value);
+    let jumps = clause_jumps(jumps);
     match clauses_made(alloc, rules, scope, frame, jumps, here, at, clauses) {
         Ok(made) => Ok(switch_of(alloc, n, value, made)?),
         Err(error) => left_over(error, value),
@@ -841,8 +849,8 @@ fn clause<R: Typing>(
     is_last: bool,
     clause: &Clause,
 ) -> Result<Result<Items<MadeClause>, Fault>, OutOfMemory>
-    ensures told { IfOk result (λ r. r ≡ told (both (labels_made scope.now here.old.names at.kind seen.old (clause_of clause.now).0) (demand (clause_place at.place (clause_of clause.now).0) Mismatch (ends (clause_of clause.now).1 is_last) (lines_made (R.rules rules.now) scope.now frame.now jumps (entered here.old) (clause_of clause.now).1)) (made_clause at.kind))) }
-    ensures grown { OnOk result (here.new ≡ left here.old (lines_behind scope.now frame.now (entered here.old) (clause_of clause.now).1)) }
+    ensures told { IfOk result (λ r. r ≡ told (clause_made (R.rules rules.now) scope.now frame.now jumps here.old at seen.old is_last (clause_of clause.now))) }
+    ensures grown { OnOk result (here.new ≡ block_behind scope.now frame.now here.old (clause_of clause.now).1) }
     ensures seen { OnOk result (seen.new ≡ labels_behind scope.now here.old.names at.kind seen.old (clause_of clause.now).0) }
 {
     labelled(
@@ -875,8 +883,8 @@ fn labelled<R: Typing>(
     body: &[Node],
     labels: &[Label],
 ) -> Result<Result<Items<MadeClause>, Fault>, OutOfMemory>
-    ensures told { IfOk result (λ r. r ≡ told (both (labels_made scope.now here.old.names at.kind seen.old labels.now) (demand (clause_place at.place labels.now) Mismatch (ends (lines_of body.now) is_last) (lines_made (R.rules rules.now) scope.now frame.now jumps (entered here.old) (lines_of body.now))) (made_clause at.kind))) }
-    ensures grown { OnOk result (here.new ≡ left here.old (lines_behind scope.now frame.now (entered here.old) (lines_of body.now))) }
+    ensures told { IfOk result (λ r. r ≡ told (clause_made (R.rules rules.now) scope.now frame.now jumps here.old at seen.old is_last (labels.now, lines_of body.now))) }
+    ensures grown { OnOk result (here.new ≡ block_behind scope.now frame.now here.old (lines_of body.now)) }
     ensures seen { OnOk result (seen.new ≡ labels_behind scope.now here.old.names at.kind seen.old labels.now) }
 {
     let first = labels_made(alloc, scope, here.names.as_slice(), at.kind, seen, labels)?;
@@ -902,8 +910,8 @@ fn ended_block<R: Typing>(
     is_last: bool,
     body: &[Node],
 ) -> Result<Result<Items<Stmt>, Fault>, OutOfMemory>
-    ensures told { IfOk result (λ r. r ≡ told (demand place Mismatch (ends (lines_of body.now) is_last) (lines_made (R.rules rules.now) scope.now frame.now jumps (entered here.old) (lines_of body.now)))) }
-    ensures grown { OnOk result (here.new ≡ left here.old (lines_behind scope.now frame.now (entered here.old) (lines_of body.now))) }
+    ensures told { IfOk result (λ r. r ≡ told (ended_made (R.rules rules.now) scope.now frame.now jumps here.old place is_last (lines_of body.now))) }
+    ensures grown { OnOk result (here.new ≡ block_behind scope.now frame.now here.old (lines_of body.now)) }
 {
     let made = block(alloc, rules, scope, frame, jumps, true, here, body)?;
     Ok(demanded(place, FaultKind::Mismatch, ends(body, is_last), made))
@@ -921,8 +929,8 @@ fn block<R: Typing>(
     here: &mut Here,
     nodes: &[Node],
 ) -> Result<Result<Items<Stmt>, Fault>, OutOfMemory>
-    ensures told { IfOk result (λ r. r ≡ told (as_part is_part (lines_made (R.rules rules.now) scope.now frame.now jumps (entered here.old) (lines_of nodes.now)))) }
-    ensures grown { OnOk result (here.new ≡ left here.old (lines_behind scope.now frame.now (entered here.old) (lines_of nodes.now))) }
+    ensures told { IfOk result (λ r. r ≡ told (as_part is_part (block_made (R.rules rules.now) scope.now frame.now jumps here.old (lines_of nodes.now)))) }
+    ensures grown { OnOk result (here.new ≡ block_behind scope.now frame.now here.old (lines_of nodes.now)) }
 {
     let names = here.names.len();
     let first = here.first;

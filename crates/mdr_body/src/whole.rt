@@ -1,13 +1,13 @@
 // A function's body (C99 6.9.1).
 
-ghost use Rattle.std.specs.Prelude.{◌≡◌, IfOk, List, map};
+ghost use Rattle.std.specs.Prelude.{◌≡◌, IfOk, List};
 ghost use Rattle.mdr_rich.specs.declared.code.Stmt.{Stmt};
 ghost use Rattle.mdr_core.specs.declared.program.Local.{Local};
 ghost use Rattle.mdr_faults.specs.Faults.{Checked, told, both};
 ghost use Rattle.mdr_operand.specs.Written.{lines_of};
-ghost use Rattle.mdr_body.specs.Locals.{first_here, parameter_taken};
 ghost use Rattle.mdr_body.specs.Uses.{first_use};
 ghost use Rattle.mdr_body.specs.Bodies.{declared_locals, frame_of, body_of, body_by, body_rule};
+ghost use Rattle.mdr_body.specs.Pieces.{body_in};
 
 use crate::here::{DeclaredLocal, Frame, Here};
 use crate::locals::{first_here, parameter_objects, struct_locks};
@@ -91,7 +91,7 @@ fn body_in<R: Typing>(
     h: &Head,
     nodes: &[Node],
 ) -> Result<Result<Body, Fault>, OutOfMemory>
-    ensures { IfOk result (λ r. r ≡ told (body_by (R.rules rules.now) scope.now frame.now (first_here scope.now (lines_of nodes.now) h.now.params) (map (parameter_taken (lines_of nodes.now)) h.now.params) (lines_of nodes.now))) }
+    ensures { IfOk result (λ r. r ≡ told (body_in (R.rules rules.now) scope.now frame.now h.now nodes.now)) }
 {
     let objects = parameter_objects(alloc, nodes, h.params.as_slice())?;
     let here = first_here(alloc, scope, nodes, h.params.as_slice())?;

@@ -65,6 +65,13 @@ function_of name is_critical h b = Right (piece.Function name is_critical h b)
 abbrev pub body_scope : Known → Head → Scope
 body_scope known h = behind_function known.scope (length known.functions) h
 
+-- a function's heading, and its body in the scope behind it
+abbrev pub function_piece : BodyRule → (before : List Item) → Known → Head → (is_critical : Bool) → List Node → Checked Piece
+function_piece body before known h is_critical nodes =
+    both (function_declared known.scope known.functions before h true)
+    (body (body_scope known h) h nodes)
+    (function_of h.name is_critical)
+
 -- an item behind others, of which this is known
 abbrev pub item_piece : BodyRule → (before : List Item) → Known → Place → ItemWhat → Checked Piece
 item_piece body before known p (item.Define name is_negative n k) = define_piece known.scope p name
@@ -72,10 +79,7 @@ item_piece body before known p (item.Struct at name ds) = struct_piece known.sco
 item_piece body before known p (item.Enum es) = nothing (enumerators known.scope before_first es)
 item_piece body before known p (item.Global d init) = after (global known.scope known.globals d init) global_of
 item_piece body before known p (item.Proto h is_remote) = after (function_declared known.scope known.functions before h false) (prototype_of h.name)
-item_piece body before known p (item.Func h is_critical nodes) =
-    both (function_declared known.scope known.functions before h true)
-    (body (body_scope known h) h nodes)
-    (function_of h.name is_critical)
+item_piece body before known p (item.Func h is_critical nodes) = function_piece body before known h is_critical nodes
 
 -- ---- what is known behind it
 

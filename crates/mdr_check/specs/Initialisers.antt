@@ -206,11 +206,15 @@ element_of o = record { ty = o.ty; count = 1; array = false }
 abbrev pub suits_array : {A : Type 0} → (A → Option FieldName) → Object → List A → Bool
 suits_array field o es = are_plain field es && has_room o (length es)
 
+-- elements that these first values are of, and zeros behind them
+abbrev pub array_rule : {A : Type 0} → Place → (A → Option FieldName) → Object → List A → Checked (List First) → Checked (List First)
+array_rule p field o es firsts =
+    demand p Mismatch (suits_array field o es)
+    (after firsts (λ xs. Right (xs ++ left_of o (length es) ∷ [])))
+
 -- the elements in their order, with no designators and no more than there are (6.7.8, paragraphs 2, 17 and 21)
 unfoldable pub array_first : Place → Object → List Part → Checked (List First)
-array_first p o es =
-    demand p Mismatch (suits_array part_field o es)
-    (after (elements_first (element_of o) es) (λ xs. Right (xs ++ left_of o (length es) ∷ [])))
+array_first p o es = array_rule p part_field o es (elements_first (element_of o) es)
 
 -- ---- lists for structs
 
@@ -257,10 +261,14 @@ members_first parts i (m ∷ ms) = both (member_first m (part_for parts i)) (mem
 abbrev pub suits_struct : {A : Type 0} → (A → Option FieldName) → List Member → List A → Bool
 suits_struct field ms es = (are_plain field es || are_named field es) && are_once field es && not (nat_lt (length ms) (length es))
 
+-- elements that are placed so, and zeros in the other members
+abbrev pub struct_rule : {A : Type 0} → Place → (A → Option FieldName) → List Member → List A → Checked (List Placed) → Checked (List First)
+struct_rule p field ms es parts =
+    demand p Mismatch (suits_struct field ms es)
+    (after parts (λ placed. members_first placed 0 ms))
+
 unfoldable pub struct_first : Place → List Member → List Part → Checked (List First)
-struct_first p ms es =
-    demand p Mismatch (suits_struct part_field ms es)
-    (after (placed_parts p ms 0 es) (λ parts. members_first parts 0 ms))
+struct_first p ms es = struct_rule p part_field ms es (placed_parts p ms 0 es)
 
 abbrev pub struct_by : Place → List Part → Option StructEntry → Checked (List First)
 struct_by p es None = refuse p Mismatch

@@ -1,6 +1,6 @@
 // A whole file: its items in their order (C99 6.9).
 
-ghost use Rattle.std.specs.Prelude.{◌≡◌, ◌+◌, [], Ok, IfOk, OnOk, List, true, false, length};
+ghost use Rattle.std.specs.Prelude.{◌≡◌, ◌+◌, [], Ok, IfOk, OnOk, List, false, length};
 ghost use Rattle.mdr_core.specs.declared.program.Field.{Field};
 ghost use Rattle.mdr_headings.specs.declared.body.Body.{Body};
 ghost use Rattle.mdr_headings.specs.declared.head.Heading.{Heading};
@@ -12,7 +12,9 @@ ghost use Rattle.mdr_headings.specs.Functions.{function_declared};
 ghost use Rattle.mdr_check.specs.Globals.{global, behind_global};
 ghost use Rattle.mdr_faults.specs.Scopes.{tag_named};
 ghost use Rattle.mdr_headings.specs.Source.{behind_struct, before_first, is_numbered};
-ghost use Rattle.mdr_check.specs.Files.{nothing, define_piece, struct_of, struct_piece, global_of, prototype_of, function_of, body_scope, item_piece, with_scope, behind_head, behind_item, pieces_behind, known_behind, with_outline_if, outlines_behind, outlines_from, with_outlines, first_scope, first_known};
+ghost use Rattle.mdr_check.specs.Files.{nothing, define_piece, struct_of, struct_piece, global_of, prototype_of, function_of, function_piece, item_piece, with_scope};
+ghost use Rattle.mdr_check.specs.Files.{behind_head, behind_item, pieces_behind, known_behind, with_outline_if, outlines_behind, outlines_from, with_outlines, first_scope};
+ghost use Rattle.mdr_check.specs.Files.{first_known};
 
 use crate::variable::{Variable, checked_global};
 use mdr_core::{Field, Items, Kind, Name, OutOfMemory, Place, StructDef};
@@ -235,7 +237,7 @@ fn function<B: Bodies>(
     is_critical: bool,
     nodes: &[Node],
 ) -> Result<Result<Piece, Fault>, OutOfMemory>
-    ensures told { IfOk result (λ r. r ≡ told (both (function_declared known.old.scope known.old.functions before.now h.now true) (B.rule bodies.now (body_scope known.old h.now) h.now nodes.now) (function_of h.now.name is_critical))) }
+    ensures told { IfOk result (λ r. r ≡ told (function_piece (B.rule bodies.now) before.now known.old h.now is_critical nodes.now)) }
     ensures grown { OnOk result (known.new ≡ behind_head known.old h.now) }
 {
     let name = copied(alloc, h.name.as_slice())?;

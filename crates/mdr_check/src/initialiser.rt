@@ -6,10 +6,14 @@ ghost use Rattle.std.specs.Option.{option_copied};
 ghost use Rattle.std.specs.Str.{bytes_eq};
 ghost use Rattle.mdr_core.specs.declared.types.Ty.{out-Ty};
 ghost use Rattle.mdr_syntax.specs.declared.tree.Elem.{out-Elem};
-ghost use Rattle.mdr_faults.specs.Faults.{Checked, Right, told, refuse, demand, after};
-ghost use Rattle.mdr_faults.specs.declared.fault.FaultKind.TheVariants.{UnknownName, Mismatch};
+ghost use Rattle.mdr_faults.specs.Faults.{Checked, Right, told, refuse, after};
+ghost use Rattle.mdr_faults.specs.declared.fault.FaultKind.TheVariants.{UnknownName};
 ghost use Rattle.mdr_faults.specs.Alike.{are_alike};
-ghost use Rattle.mdr_check.specs.Initialisers.{null_if, number_first, is_any_pointer_by, null_first, handle_first, entity_first, named_first, constant_first, address_if, address_first, located_first, address_named, is_aggregate, sole, single, left_of, characters, has_room, text_by, takes_text, text_first, field_of, are_plain, are_named, is_same_field, are_once, elements_first, element_of, array_first, suits_array, numbered, part_number, placed, placed_at, placed_by, placed_parts, member_first, part_for, members_first, suits_struct, struct_first, struct_by, list_by, list_first, initial, part};
+ghost use Rattle.mdr_check.specs.Initialisers.{null_if, number_first, is_any_pointer_by, null_first, handle_first, entity_first, named_first, constant_first, address_if};
+ghost use Rattle.mdr_check.specs.Initialisers.{address_first, located_first, address_named, is_aggregate, sole, single, left_of, characters, has_room, text_by, takes_text};
+ghost use Rattle.mdr_check.specs.Initialisers.{text_first, field_of, are_plain, are_named, is_same_field, are_once, elements_first, element_of, array_first, array_rule};
+ghost use Rattle.mdr_check.specs.Initialisers.{suits_array, numbered, part_number, placed, placed_at, placed_by, placed_parts, member_first, part_for, members_first, suits_struct};
+ghost use Rattle.mdr_check.specs.Initialisers.{struct_first, struct_rule, struct_by, list_by, list_first, initial, part};
 
 use mdr_arith::conv;
 use mdr_core::{Items, Kind, Name, Place, Ty};
@@ -428,7 +432,7 @@ fn array_rule(
     o: &Object,
     firsts: Result<Items<First>, Fault>,
 ) -> Result<Result<Items<First>, Fault>, AllocError>
-    ensures { (c : Checked (List First)) → firsts ≡ told c → IfOk result (λ r. r ≡ told (demand place Mismatch (suits_array field_of o.now elems.now) (after c (λ xs. Right (xs ++ left_of o.now (length elems.now) ∷ []))))) }
+    ensures { (c : Checked (List First)) → firsts ≡ told c → IfOk result (λ r. r ≡ told (array_rule place field_of o.now elems.now c)) }
 {
     let all = with_left(alloc, o, elems.len(), firsts)?;
     Ok(demanded(place, FaultKind::Mismatch, suits_array(o, elems), all))
@@ -585,7 +589,7 @@ fn struct_rule(
     elems: &[Elem],
     parts: Result<Items<Placed>, Fault>,
 ) -> Result<Result<Items<First>, Fault>, AllocError>
-    ensures { (c : Checked (List Placed)) → parts ≡ told c → IfOk result (λ r. r ≡ told (demand place Mismatch (suits_struct field_of members.now elems.now) (after c (λ parts. members_first parts 0 members.now)))) }
+    ensures { (c : Checked (List Placed)) → parts ≡ told c → IfOk result (λ r. r ≡ told (struct_rule place field_of members.now elems.now c)) }
 {
     let all = arranged(alloc, members, parts)?;
     Ok(demanded(

@@ -3,7 +3,8 @@
 ghost use Rattle.std.specs.Prelude.{◌≡◌, map, Some, None, IfOk};
 ghost use Rattle.mdr_core.specs.Layout.{chosen};
 ghost use Rattle.mdr_faults.specs.Faults.{told};
-ghost use Rattle.mdr_check.specs.Uses.{const_use, first_of, init_use, elem_use, perhaps_use, item_use, use_among, constant_at, constant_among, undefined_at, undefined_by, undefined, defined_rule, defined_functions};
+ghost use Rattle.mdr_check.specs.Uses.{const_use, first_of, init_use, elem_use, perhaps_use, item_use, use_among, constant_at, constant_among, undefined_at, undefined_by};
+ghost use Rattle.mdr_check.specs.Uses.{undefined, defined_rule, defined_functions};
 
 use mdr_core::{Items, Place};
 use mdr_faults::{Fault, FaultKind, extended};

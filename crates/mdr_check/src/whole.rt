@@ -1,12 +1,12 @@
 // A whole file, with a rule for the bodies of its functions (C99 6.9).
 
-ghost use Rattle.std.specs.Prelude.{◌≡◌, IfOk, List, MatchResult};
+ghost use Rattle.std.specs.Prelude.{◌≡◌, IfOk, List};
 ghost use Rattle.mdr_core.specs.declared.place.Place.{Place};
 ghost use Rattle.mdr_check.specs.declared.file.Piece.{Piece};
-ghost use Rattle.mdr_faults.specs.Faults.{Checked, Right, told, both, IsFirst};
+ghost use Rattle.mdr_faults.specs.Faults.{Checked, told, both};
 ghost use Rattle.mdr_check.specs.Files.{first_known};
 ghost use Rattle.mdr_headings.specs.Names.{Verdict};
-ghost use Rattle.mdr_check.specs.Whole.{kept, named, file_pieces};
+ghost use Rattle.mdr_check.specs.Whole.{Finds, kept, named, file_pieces};
 
 use crate::file::{Known, Piece, first_known, pieces_behind};
 use crate::names::short_items;
@@ -76,7 +76,7 @@ pub fn checked_pieces<B: Bodies>(
     bodies: &B,
     items: &[Item],
 ) -> Result<Result<Items<Piece>, Fault>, OutOfMemory>
-    ensures { IfOk result (λ r. MatchResult r (λ ps. file_pieces (B.rule bodies.now) (B.used bodies.now) items.now ≡ Right ps) (λ f. IsFirst f (file_pieces (B.rule bodies.now) (B.used bodies.now) items.now))) }
+    ensures { IfOk result (Finds (file_pieces (B.rule bodies.now) (B.used bodies.now) items.now)) }
 {
     let pieces = told_pieces(alloc, bodies, items)?;
     Ok(pieces)

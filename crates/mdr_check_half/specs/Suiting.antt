@@ -90,13 +90,18 @@ each_key test lists = list_all (λ ks. list_all test ks) lists
 
 -- ---- the whole plan
 
+-- each key names something that is no lock
+abbrev pub suits_keys : Plan → Parts → Bool
+suits_keys plan ps = each_key (λ k. names_something plan.types ps k) plan.keys && each_key (λ k. names_no_lock plan.types ps k) plan.keys
+
+-- there are as many structs, these types, and keys that suit
+abbrev pub suits_types : Plan → Parts → List Ty → Bool
+suits_types plan ps all = (structs_in plan.types == length ps.structs) && (list_all (λ t. has_type plan.types t) all && suits_keys plan ps)
+
 -- the plan has the text's functions by their names, those of the user half have their bodies in the text and those of the kernel half have none, it has as many structs as the text and each type that occurs there, and each of its keys names something that is no lock
 unfoldable pub suits_text : Plan → Parts → Bool
 suits_text plan ps =
     are_named plan.names ps.funcs
     && (each_function is_whole plan.halves ps.funcs
     && (each_function is_bare plan.halves ps.funcs
-    && ((structs_in plan.types == length ps.structs)
-    && (list_all (λ t. has_type plan.types t) (occurring ps)
-    && (each_key (λ k. names_something plan.types ps k) plan.keys
-    && each_key (λ k. names_no_lock plan.types ps k) plan.keys)))))
+    && suits_types plan ps (occurring ps)))

@@ -1,9 +1,8 @@
 // Whether a plan suits a text.
 
-ghost use Rattle.std.specs.Prelude.{◌≡◌, ◌==◌, ◌&&◌, IfOk, length};
-ghost use Rattle.std.specs.List.{list_all};
+ghost use Rattle.std.specs.Prelude.{◌≡◌, ◌==◌, IfOk, length};
 ghost use Rattle.mdr_program.specs.Occurring.{occurring};
-ghost use Rattle.mdr_check_half.specs.Suiting.{are_named, is_whole, is_bare, each_function, structs_in, has_type, names_something, names_no_lock, each_key, suits_text};
+ghost use Rattle.mdr_check_half.specs.Suiting.{are_named, is_whole, is_bare, each_function, structs_in, suits_keys, suits_types, suits_text};
 
 use crate::functions::{are_bare, are_named, are_whole};
 use crate::keys::{all_name_something, none_names_a_lock};
@@ -19,7 +18,7 @@ fn has_structs(plan: &Plan, parts: &Parts) -> bool
 }
 
 fn suits_keys(plan: &Plan, parts: &Parts) -> bool
-    ensures { result ≡ (each_key (λ k. names_something plan.now.types parts.now k) plan.now.keys && each_key (λ k. names_no_lock plan.now.types parts.now k) plan.now.keys) }
+    ensures { result ≡ (suits_keys plan.now parts.now) }
 {
     let types = plan.types.as_slice();
     let keys = plan.keys.as_slice();
@@ -27,7 +26,7 @@ fn suits_keys(plan: &Plan, parts: &Parts) -> bool
 }
 
 fn suits_types(plan: &Plan, parts: &Parts, all: &[Ty]) -> bool
-    ensures { result ≡ ((structs_in plan.now.types == length parts.now.structs) && (list_all (λ t. has_type plan.now.types t) all.now && (each_key (λ k. names_something plan.now.types parts.now k) plan.now.keys && each_key (λ k. names_no_lock plan.now.types parts.now k) plan.now.keys))) }
+    ensures { result ≡ suits_types plan.now parts.now all.now }
 {
     has_structs(plan, parts) && has_types(plan.types.as_slice(), all) && suits_keys(plan, parts)
 }

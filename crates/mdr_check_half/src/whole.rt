@@ -1,10 +1,11 @@
 // The types of a user half's text.
 
-ghost use Rattle.std.specs.Prelude.{◌≡◌, Err, IfOk, List, MatchResult};
+ghost use Rattle.std.specs.Prelude.{◌≡◌, Err, IfOk, List};
 ghost use Rattle.mdr_check.specs.declared.file.Piece.{Piece as OnePiece};
 ghost use Rattle.mdr_faults.specs.declared.fault.FaultKind.TheVariants.{Mismatch};
 ghost use Rattle.mdr_program.specs.Programs.{with_types};
-ghost use Rattle.mdr_faults.specs.Faults.{Checked, Right, after, IsFirst};
+ghost use Rattle.mdr_check.specs.Whole.{Finds};
+ghost use Rattle.mdr_faults.specs.Faults.{Checked, after};
 ghost use Rattle.mdr_check_half.specs.HalfPrograms.{begin, planned, half_right, half_typed};
 
 use crate::fitting::suits_text;
@@ -36,7 +37,7 @@ fn with_plan(alloc: Global, plan: &Plan, parts: Parts) -> Result<Program, OutOfM
 
 /// The program of these parts, if the plan suits them.
 fn planned(alloc: Global, plan: &Plan, parts: Parts) -> Result<Result<Program, Fault>, OutOfMemory>
-    ensures { IfOk result (λ r. MatchResult r (λ p. planned plan.now parts ≡ Right p) (λ f. IsFirst f (planned plan.now parts))) }
+    ensures { IfOk result (Finds (planned plan.now parts)) }
 {
     if suits_text(alloc, plan, &parts)? {
         Ok(Ok(with_plan(alloc, plan, parts)?))
@@ -51,7 +52,7 @@ fn half_right(
     plan: &Plan,
     pieces: Result<Items<Piece>, Fault>,
 ) -> Result<Result<Program, Fault>, OutOfMemory>
-    ensures { (c : Checked (List OnePiece)) → MatchResult pieces (λ ps. c ≡ Right ps) (λ f. IsFirst f c) → IfOk result (λ r. MatchResult r (λ p. after c (half_right plan.now) ≡ Right p) (λ f. IsFirst f (after c (half_right plan.now)))) }
+    ensures { (c : Checked (List OnePiece)) → Finds c pieces → IfOk result (Finds (after c (half_right plan.now))) }
 {
     match pieces {
         Ok(pieces) => planned(alloc, plan, parts_of(alloc, pieces)?),
@@ -67,7 +68,7 @@ pub fn check_half<B: Bodies>(
     tree: &Tree,
     plan: &Plan,
 ) -> Result<Result<Program, Fault>, OutOfMemory>
-    ensures { IfOk result (λ r. MatchResult r (λ p. half_typed (B.rule bodies.now) (B.used bodies.now) plan.now tree.now.items ≡ Right p) (λ f. IsFirst f (half_typed (B.rule bodies.now) (B.used bodies.now) plan.now tree.now.items))) }
+    ensures { IfOk result (Finds (half_typed (B.rule bodies.now) (B.used bodies.now) plan.now tree.now.items)) }
 {
     let pieces = checked_pieces(alloc, bodies, tree.items.as_slice())?;
     half_right(alloc, plan, pieces)

@@ -1,12 +1,12 @@
 // Which cells a block has: the type of each, found by a walk over its elements.
 
-ghost use Rattle.std.specs.Prelude.{◌≡◌, ◌+◌, ℕ, List, length, nat_lt, slice_get, replicate, MatchOption, Some, None};
+ghost use Rattle.std.specs.Prelude.{◌≡◌, ℕ, List, nat_lt, slice_get, replicate, MatchOption, Some, None};
 ghost use Rattle.std.specs.Option.{option_map};
-ghost use Rattle.mdr_core.specs.Layout.{Leaf, Alone, repeated, leaves, leaves_below, struct_cells, struct_of, fields_of, zero_value};
+ghost use Rattle.mdr_core.specs.Layout.{Leaf, repeated, leaves_below, struct_cells, struct_of, fields_of, zero_value};
 ghost use Rattle.mdr_meaning.specs.Values.{wire_of};
 ghost use Rattle.mdr_model.specs.Memory.{size_of, leaf_at};
 ghost use Rattle.mdr_model.specs.Agreement.{cell_zero};
-ghost use Rattle.mdr_copy.specs.CellTypes.{is_void, type_of, types_of};
+ghost use Rattle.mdr_copy.specs.CellTypes.{Passes, element_types, is_void, type_of, types_of};
 
 use mdr_core::{Field, LockState, Program, StructDef, Ty};
 use mdr_model::{New, Wire};
@@ -53,7 +53,7 @@ fn is_void(ty: &Ty) -> bool
 }
 
 fn past_row(count: u32, ty: &Ty, left: u64) -> Passed<'_>
-    ensures { MatchOption result.found (length (replicate count ty.now) + result.left ≡ left) (λ t. slice_get (replicate count ty.now) left ≡ Some t.now) }
+    ensures { Passes (replicate count ty.now) left result }
 {
     if left < count as u64 {
         Passed {
@@ -68,7 +68,7 @@ fn past_row(count: u32, ty: &Ty, left: u64) -> Passed<'_>
 /// Goes past elements of a type that is no struct.
 fn past_scalars(count: u32, ty: &Ty, left: u64) -> Passed<'_>
     requires { struct_of ty.now ≡ None }
-    ensures { (known : ℕ → List Leaf) → MatchOption result.found (length (types_of (repeated count (leaves known Alone ty.now))) + result.left ≡ left) (λ t. slice_get (types_of (repeated count (leaves known Alone ty.now))) left ≡ Some t.now) }
+    ensures { (known : ℕ → List Leaf) → Passes (element_types known count ty.now) left result }
 {
     if is_void(ty) {
         behind(left)
@@ -81,7 +81,7 @@ fn past_scalars(count: u32, ty: &Ty, left: u64) -> Passed<'_>
 #[cycle(past)]
 #[tactic(auto, unfolding(mdr_core::specs::Layout::struct_cells))]
 fn past_struct(structs: &[StructDef], s: u32, left: u64) -> Passed<'_>
-    ensures { MatchOption result.found (length (types_of (struct_cells structs.now s)) + result.left ≡ left) (λ t. slice_get (types_of (struct_cells structs.now s)) left ≡ Some t.now) }
+    ensures { Passes (types_of (struct_cells structs.now s)) left result }
 {
     let mut rest = left;
     for field in fields(structs, s) {
@@ -103,7 +103,7 @@ fn past_field<'a>(
     ty: &'a Ty,
     left: u64,
 ) -> Passed<'a>
-    ensures { MatchOption result.found (length (types_of (repeated count (leaves (leaves_below structs.now below) Alone ty.now))) + result.left ≡ left) (λ t. slice_get (types_of (repeated count (leaves (leaves_below structs.now below) Alone ty.now))) left ≡ Some t.now) }
+    ensures { Passes (element_types (leaves_below structs.now below) count ty.now) left result }
 {
     match struct_named(ty) {
         Some(s) => {
@@ -120,7 +120,7 @@ fn past_field<'a>(
 /// Goes past the cells of structs in a row.
 #[cycle(past)]
 fn past_structs(structs: &[StructDef], count: u32, s: u32, left: u64) -> Passed<'_>
-    ensures { MatchOption result.found (length (types_of (repeated count (struct_cells structs.now s))) + result.left ≡ left) (λ t. slice_get (types_of (repeated count (struct_cells structs.now s))) left ≡ Some t.now) }
+    ensures { Passes (types_of (repeated count (struct_cells structs.now s))) left result }
 {
     let mut rest = left;
     for _ in 0..count {
@@ -135,7 +135,7 @@ fn past_structs(structs: &[StructDef], count: u32, s: u32, left: u64) -> Passed<
 
 /// Goes past the cells of elements.
 fn past_elements<'a>(structs: &'a [StructDef], count: u32, ty: &'a Ty, left: u64) -> Passed<'a>
-    ensures { MatchOption result.found (length (types_of (repeated count (leaves (struct_cells structs.now) Alone ty.now))) + result.left ≡ left) (λ t. slice_get (types_of (repeated count (leaves (struct_cells structs.now) Alone ty.now))) left ≡ Some t.now) }
+    ensures { Passes (element_types (struct_cells structs.now) count ty.now) left result }
 {
     match struct_named(ty) {
         Some(s) => past_structs(structs, count, s, left),

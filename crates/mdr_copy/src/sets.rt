@@ -3,7 +3,7 @@
 ghost use Rattle.std.specs.Prelude.{◌≡◌, ◌++◌, OnOk, IfOk};
 ghost use Rattle.mdr_model.specs.Sets.{cells_of_run, cells_of_runs};
 
-use mdr_core::{Items, OutOfMemory};
+use mdr_core::{Items, Limit, OutOfMemory, within};
 use mdr_model::{Cell, SetRun};
 use std::alloc::Global;
 
@@ -12,13 +12,11 @@ pub(crate) fn put_run(out: &mut Vec<Cell>, run: SetRun) -> Result<(), OutOfMemor
     ensures { OnOk result (out.new.items ≡ out.old.items ++ cells_of_run run) }
 {
     for i in 0..run.len {
-        match run.first.checked_add(i) {
-            Some(index) => out.push(Cell {
-                serial: run.serial,
-                index,
-            })?,
-            None => return Err(OutOfMemory::unmet()),
-        }
+        within(run.first as u64 + i as u64, Limit::Cells)?;
+        out.push(Cell {
+            serial: run.serial,
+            index: run.first + i,
+        })?;
     }
     Ok(())
 }

@@ -18,3 +18,4 @@ most limit.Fields = 4294967295
 most limit.Items = 2147483647
 most limit.Deep = 18446744073709551615
 most limit.Active = 4294967295
+most limit.Levels = 1000

@@ -26,6 +26,7 @@ pub fn most(limit: Limit) -> u64
         Limit::Items => 2_147_483_647,
         Limit::Deep => u64::MAX,
         Limit::Active => 4_294_967_295,
+        Limit::Levels => 1_000,
     }
 }
 

@@ -22,6 +22,12 @@ impl<T: Drop> From<AllocFailed<T>> for OutOfMemory {
     }
 }
 
+impl From<OutOfMemory> for AllocError {
+    fn from(_e: OutOfMemory) -> AllocError {
+        AllocError
+    }
+}
+
 impl OutOfMemory {
     /// The same want of memory, where an error of another type told it.
     pub fn passed_on() -> OutOfMemory {
@@ -64,6 +70,8 @@ pub enum Limit {
     Deep,
     /// Functions that are active at a time: 2^32 - 1.
     Active,
+    /// Levels of a function's statements in one another when they are brought into plain form: 1,000.
+    Levels,
 }
 
 impl Limit {

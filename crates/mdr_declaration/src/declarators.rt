@@ -4,12 +4,15 @@ ghost use Rattle.std.specs.Prelude.{◌≡◌, ◌<◌, ◌≤◌, length, IfOk,
 ghost use Rattle.mdr_syntax.specs.declared.token.Token.{Token as token_value};
 ghost use Rattle.mdr_grammar.specs.Forms.Part.{specifiers as some_specifiers, declarator as a_declarator, parameter as a_parameter};
 ghost use Rattle.mdr_grammar.specs.Forms.Separated.{parameters_at};
-ghost use Rattle.mdr_grammar.specs.Forms.Nonterminal.{part, option, commas, parameters as some_parameters, after_void as behind_void, parameter_name as a_parameter_name, parameter_declarator as parameter_declarators};
+ghost use Rattle.mdr_grammar.specs.Forms.Nonterminal.{part, option, commas, parameters as some_parameters};
+ghost use Rattle.mdr_grammar.specs.Forms.Nonterminal.{after_void as behind_void, parameter_name as a_parameter_name, parameter_declarator as parameter_declarators};
 ghost use Rattle.mdr_grammar.specs.Forms.Empty.{may};
 ghost use Rattle.mdr_grammar.specs.Front.{first, front, nothing_at};
-ghost use Rattle.mdr_grammar.specs.Declarations.{declarator_rule, declared, unnamed as unnamed_decl, perhaps_named as maybe_named, with_annotation as with_ann, annotated_parameter, parameter_in, parameters_in, declared_void, annotated_void, after_void_rule, pointed_parameters as parameters_pointed, parameter_declarator_rule, void_base};
+ghost use Rattle.mdr_grammar.specs.Declarations.{declarator_rule, declared, unnamed as unnamed_decl, perhaps_named as maybe_named, with_annotation as with_ann};
+ghost use Rattle.mdr_grammar.specs.Declarations.{annotated_parameter, parameter_in, parameters_in, declared_void, annotated_void};
+ghost use Rattle.mdr_grammar.specs.Declarations.{after_void_rule, pointed_parameters as parameters_pointed, parameter_declarator_rule, void_base};
 ghost use Rattle.mdr_grammar.specs.Expressions.{text_of as text_in};
-ghost use Rattle.mdr_reader.specs.Gives.{Gives, Behind, read_by, read_from, after_stars};
+ghost use Rattle.mdr_reader.specs.Gives.{Gives, Tells, Behind, read_by, read_from, after_stars};
 ghost use Rattle.std.specs.Option.{option_copied};
 ghost use Rattle.mdr_reader.specs.declared.failure.Failure.TheVariants.{Memory};
 ghost use Rattle.mdr_grammar.specs.declared.sort.Sort.TheVariants as sort_is;
@@ -18,7 +21,7 @@ use mdr_core::{Items, Name, Place};
 use mdr_grammar::parts::Specifier;
 use mdr_grammar::sort::Sort;
 use mdr_reader::constants::{annotation_option, size, stars};
-use mdr_reader::failure::Failure;
+use mdr_reader::failure::{Failure, Refused};
 use mdr_reader::look::{Reader, copied, may_open, past, split, take, text_of};
 use mdr_reader::types::base;
 use mdr_syntax::{AnnText, Base, Const, Decl, Token};
@@ -355,15 +358,15 @@ fn parameter_name(
     reader: Reader,
     tokens: &[Token],
     is_named: bool,
-) -> Result<(Option<&Token>, &[Token]), Failure>
-    ensures reads { Gives (λ x. option_copied x.0) (λ x. x.1.now) result (first reader.halves (a_parameter_name is_named) tokens.now) }
+) -> Result<(Option<&Token>, &[Token]), Refused>
+    ensures reads { Tells (λ x. option_copied x.0) (λ x. x.1.now) result (first reader.halves (a_parameter_name is_named) tokens.now) }
     ensures shorter { IfOk result (λ x. length x.1.now ≤ length tokens.now) }
 {
     match past(reader.halves, Sort::Name, tokens) {
         Some((name, rest)) => Ok((Some(name), rest)),
         None => {
             if is_named {
-                Err(Failure::Fault(tokens.len()))
+                Err(Refused { left: tokens.len() })
             } else {
                 Ok((None, tokens))
             }

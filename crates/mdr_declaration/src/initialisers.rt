@@ -186,9 +186,9 @@ fn element_of(reader: Reader, name: &Token, init: Init) -> Result<Elem, Failure>
             }),
             init,
         }),
-        Err(_) => {
+        Err(error) => {
             drop(init);
-            Err(Failure::Memory)
+            Err(error.into())
         }
     }
 }

@@ -4,7 +4,7 @@ use Rattle.std.specs.Prelude.{◌≡◌, ℕ, suc, ◌<◌, List, [], Option, So
 use Rattle.mdr_core.specs.declared.place.At.{At}
 use Rattle.mdr_core.specs.declared.stop.StopKind.{StopKind}
 use Rattle.mdr_core.specs.declared.stop.StopKind.TheVariants as stop
-use Rattle.mdr_core.specs.Code.{Called, CallOf}
+use Rattle.mdr_core.specs.Code.{Called, CallOf, Term}
 use Rattle.mdr_core.specs.Layout.{chosen}
 use Rattle.mdr_core.specs.Services.{Service, Kzalloc, Kcalloc, Printk, Deliver, service_numbered}
 use Rattle.mdr_meaning.specs.declared.wire.Wire.{Wire}
@@ -36,6 +36,10 @@ abbrev pub goes_by : ℕ → List Wire → Option Body → Calling
 goes_by f vs (Some body) = Entering f vs body
 goes_by f vs None = Crossing f vs
 
+-- bytes are read, and the service that delivers them is asked for
+abbrev pub delivered : {M : Type 0} → Accesses M → M → (service : ℕ) → At → List Wire → Result Calling StopKind
+delivered a m n at vs = after_value (a.read m (first_of vs) (counted (first_of (rest_of vs)))) (λ bytes. Ok (Asking (asked_for n at [] [] bytes)))
+
 module _ {M : Type 0} (a : Accesses M) (side : Side) (here : Here) (m : M) where
   -- at most 256 functions are active
   abbrev pub direct_of : ℕ → List Wire → Result Calling StopKind
@@ -43,6 +47,10 @@ module _ {M : Type 0} (a : Accesses M) (side : Side) (here : Here) (m : M) where
 
   abbrev pub through_of : Wire → List Wire → Result Calling StopKind
   through_of v vs = after_value (function_of v) (λ f. direct_of f vs)
+
+  -- a call through a pointer: the callee is evaluated before the arguments
+  abbrev pub called_through : CallOf → List Wire → Term → Result Calling StopKind
+  called_through form slots e = after_value (value_of a m side.known slots e) (λ v. after_value (values_of a m side.known slots form.args) (λ vs. through_of v vs))
 
   module _ (at : At) (form : CallOf) where
     abbrev pub asking : (service : ℕ) → List Wire → List Shape64 → List ℕ → Result Calling StopKind
@@ -52,15 +60,20 @@ module _ {M : Type 0} (a : Accesses M) (side : Side) (here : Here) (m : M) where
     served_by n vs (Some Kzalloc) = asking n [] (allocated side.known form.shape 1) []
     served_by n vs (Some Kcalloc) = asking n [] (allocated side.known form.shape (counted (first_of vs))) []
     served_by n vs (Some Printk) = asking n [] [] (print_text (unwrap_or form.format []) vs)
-    served_by n vs (Some Deliver) = after_value (a.read m (first_of vs) (counted (first_of (rest_of vs)))) (λ bytes. asking n [] [] bytes)
+    served_by n vs (Some Deliver) = delivered a m n at vs
     served_by n vs _ = asking n vs [] []
 
-    -- the callee is evaluated before the arguments. Service 15 calls what its first argument names
+    abbrev pub served_of : ℕ → List Wire → Result Calling StopKind
+    served_of n vs = served_by n vs (service_numbered n)
+
+    -- service 15 calls what its first argument names
+    abbrev pub service_of : ℕ → List Wire → Result Calling StopKind
+    service_of n vs = chosen (n == 15) (through_of (first_of vs) (rest_of vs)) (served_of n vs)
+
     abbrev pub called_of : List Wire → Called → Result Calling StopKind
     called_of slots (Called.Direct f) = after_value (values_of a m side.known slots form.args) (λ vs. direct_of f vs)
-    called_of slots (Called.Through e) = after_value (value_of a m side.known slots e) (λ v. after_value (values_of a m side.known slots form.args) (λ vs. through_of v vs))
-    called_of slots (Called.Service n) =
-        after_value (values_of a m side.known slots form.args) (λ vs. chosen (n == 15) (through_of (first_of vs) (rest_of vs)) (served_by n vs (service_numbered n)))
+    called_of slots (Called.Through e) = called_through form slots e
+    called_of slots (Called.Service n) = after_value (values_of a m side.known slots form.args) (λ vs. service_of n vs)
 
 -- a body is entered where fewer than 256 functions are active
 abbrev pub IsShallow : (depth : ℕ) → Result Calling StopKind → Type 0

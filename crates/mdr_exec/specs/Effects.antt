@@ -49,10 +49,14 @@ module _ {M : Type 0} (a : Accesses M) where
   abbrev pub stored : {A : Type 0} → Wire → Wire → A → M → Did A M
   stored p v x m = after_result (a.store m p v) m (λ m' old. did (Ok x) m')
 
+  -- a store where a place was found
+  abbrev pub stored_by : {A : Type 0} → (found : Result Wire StopKind) → Wire → A → M → Did A M
+  stored_by found v x m = after_result found m (λ p. stored p v x)
+
   -- a value is put where an lvalue says, given its place (6.5.16.1)
   abbrev pub put_by : Lvalue → (found : Result Wire StopKind) → Wire → Locals → M → Did Locals M
   put_by (Lvalue.Slot i) found v l m = did (Ok (record { slots = slice_set l.slots i v; born = l.born })) m
-  put_by _ found v l m = after_result found m (λ p. stored p v l)
+  put_by _ found v l m = stored_by found v l m
 
   unfoldable pub put_of : Numbered → Lvalue → Wire → Locals → M → Did Locals M
   put_of known p v l m = put_by p (place_of a m known l.slots p) v l m
@@ -78,9 +82,13 @@ module _ {M : Type 0} (a : Accesses M) where
   texts_of kind p i [] l m = ended Ends l m
   texts_of kind p i (b ∷ bs) l m = after_did (stored (element p i) (wire.Int kind (converted kind (pos b))) l m) (texts_of kind p (suc i) bs)
 
-  -- the parameters that are objects are given their values
+  -- the object of a parameter is given its value
+  abbrev pub fill_of : ℕ → Wire → Locals → M → Did Locals M
+  fill_of i p l m = stored p (slot_of l.slots i) (with_object i p l) m
+
+  -- and those of all
   unfoldable pub fills_of : List ℕ → List Wire → Locals → M → Did Locals M
-  fills_of (i ∷ is) (p ∷ ps) l m = after_did (stored p (slot_of l.slots i) (with_object i p l) m) (fills_of is ps)
+  fills_of (i ∷ is) (p ∷ ps) l m = after_did (fill_of i p l m) (fills_of is ps)
   fills_of is ps l m = did (Ok l) m
 
   -- work in a tree does so much, and then the tree goes on

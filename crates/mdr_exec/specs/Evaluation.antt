@@ -22,6 +22,10 @@ abbrev pub after_value : {A B : Type 0} → Result A StopKind → (A → Result 
 after_value (Ok x) go = go x
 after_value (Err kind) go = Err kind
 
+-- a value as a truth
+abbrev pub truth_of : Result Wire StopKind → Result Wire StopKind
+truth_of x = after_value x (λ w. Ok (truth (is_true w)))
+
 -- `&&` and `||`, in which the right operand counts where the left one doesn't decide (6.5.13, 6.5.14)
 abbrev pub and_of : (left right : Result Wire StopKind) → Result Wire StopKind
 and_of left right = after_value left (λ v. after_value (chosen (is_true v) right (Ok (truth false))) (λ w. Ok (truth (is_true w))))
@@ -69,6 +73,10 @@ module _ {M : Type 0} (a : Accesses M) (m : M) where
       place_of (Lvalue.Deref e) = value_of e
       place_of (Lvalue.Member p f) = after_value (place_of p) (λ x. member known x f)
       place_of (Lvalue.Index p e) = after_value (place_of p) (λ x. after_value (value_of e) (λ n. moved x (integer n)))
+
+    -- what is read where an lvalue says
+    abbrev pub loaded_of : Lvalue → Result Wire StopKind
+    loaded_of p = loaded_by slots p (place_of p)
 
     unfoldable pub values_of : List Term → Result (List Wire) StopKind
     values_of [] = Ok []

@@ -5,7 +5,8 @@ use Rattle.mdr_core.specs.declared.plan.Half.{Half}
 use Rattle.mdr_core.specs.declared.plan.Half.TheVariants as half
 use Rattle.mdr_core.specs.declared.program.Program.{Program}
 use Rattle.mdr_core.specs.declared.stop.StopKind.{StopKind}
-use Rattle.mdr_core.specs.Code.{CallOf, Code, Goal}
+use Rattle.mdr_core.specs.declared.place.At.{At}
+use Rattle.mdr_core.specs.Code.{Called, CallOf, Code, Goal, Term}
 use Rattle.mdr_core.specs.Layout.{chosen}
 use Rattle.mdr_core.specs.Services.{Service, Kzalloc, Kcalloc, Printk, Deliver}
 use Rattle.mdr_meaning.specs.Bodies.{body_of, known_of, whole_side, kernel_side, user_side}
@@ -22,7 +23,8 @@ use Rattle.mdr_exec.specs.declared.calling.Taking.TheVariants as taking
 use Rattle.mdr_exec.specs.declared.frame.Machine.{Machine}
 use Rattle.mdr_exec.specs.declared.frame.Side.{Side as Which}
 use Rattle.mdr_exec.specs.declared.frame.Side.TheVariants as which
-use Rattle.mdr_exec.specs.Calling.{Calling, Entering, Crossing, Asking}
+use Rattle.mdr_meaning.specs.Walk.{Accesses}
+use Rattle.mdr_exec.specs.Calling.{Calling, Entering, Crossing, Asking, called_of, called_through}
 use Rattle.mdr_exec.specs.Closing.{asks_on}
 use Rattle.mdr_exec.specs.Found.{body_codes}
 use Rattle.mdr_exec.specs.Holding.{block_of, goal_at, held_of, number_at, result_by, slots_by}
@@ -80,6 +82,14 @@ side_at c = side_in c.machine.now.side c.halves.now c.program.now
 
 abbrev pub here_at : Calls → Here
 here_at c = here_in c.program.now c.machine.now
+
+-- a call over a memory: through a pointer, of a service, or any
+module _ {M : Type 0} (a : Accesses M) (c : Calls) (m : M) where
+  abbrev pub called_through_at : CallOf → Term → Result Calling StopKind
+  called_through_at form e = called_through a (side_at c) (here_at c) m form (wires_of c.machine.now.top.slots) e
+
+  abbrev pub called_at : At → CallOf → Called → Result Calling StopKind
+  called_at at form callee = called_of a (side_at c) (here_at c) m at form (wires_of c.machine.now.top.slots) callee
 
 -- what is asked for besides the arguments
 abbrev pub taking_by : Option Service → Taking

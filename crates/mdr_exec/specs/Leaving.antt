@@ -60,6 +60,10 @@ module _ (program : Program) (m : Machine) where
   abbrev pub goes_behind : Flow → (next : ℕ) → (born : List Wire) → Held
   goes_behind flow next born = holds (front_after flow) here_in (with_born born) (behind (block_of program m.top) next) (held_of program m).items
 
+  -- a list that is no loop's ended so
+  abbrev pub plain_left : Flow → Position → Held
+  plain_left flow p = goes_behind flow p.next (passed_on flow (wires_of p.born) (wires_of m.top.born))
+
   -- the step of a loop comes, and then its next turn
   abbrev pub goes_round : Position → Held
   goes_round p =

@@ -19,5 +19,6 @@ pub mod Entering
 pub mod Printing
 pub mod Halves
 pub mod Going
+pub mod Executing
 pub mod Quick
 pub mod Behind

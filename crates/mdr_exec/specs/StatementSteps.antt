@@ -71,6 +71,11 @@ module _ {M : Type 0} (a : Accesses M) (side : Side) (here : Here) (l : Locals) 
   abbrev pub IsDone : Code → Did Left M → Type 0
   IsDone code d = Ticks a side (holds Runs here l (Codes.Then code more) items) m (came_by (in_here here n) d.result) (held_after d.result here more items) d.memory
 
+  -- its test is evaluated in its tick, and this is held for what the test comes to
+  abbrev pub IsTested : Code → Term → (Result Wire StopKind → Held) → Type 0
+  IsTested code e held =
+      Ticks a side (holds Runs here l (Codes.Then code more) items) m (came_by (in_here here n) (value_of a m side.known l.slots e)) (held (value_of a m side.known l.slots e)) m
+
   pub record StatementsStep : Type 0 where
     -- 6.7, 6.7.8
     pub declares : (i : ℕ) → is_object (slice_get here.slots i) ≡ false → IsDone (Code.Declare n i) (ended Ends (zeroed i (slice_get here.slots i) l) m)
@@ -88,11 +93,9 @@ module _ {M : Type 0} (a : Accesses M) (side : Side) (here : Here) (l : Locals) 
         (call_came here (in_here here n) (called_of a side here m (in_here here n) form l.slots form.callee))
         (calling here l more items n goal (called_of a side here m (in_here here n) form l.slots form.callee)) m
     -- 6.8.4.1
-    pub branches : (e : Term) (one other : Codes)
-        → Ticks a side (holds Runs here l (Codes.Then (Code.If n e one other) more) items) m (came_by (in_here here n) (value_of a m side.known l.slots e)) (branched here l more items one other (value_of a m side.known l.slots e)) m
+    pub branches : (e : Term) (one other : Codes) → IsTested (Code.If n e one other) e (branched here l more items one other)
     -- 6.8.5
-    pub turns : (e : Term) (step body : Codes)
-        → Ticks a side (holds Runs here l (Codes.Then (Code.Loop n e step body) more) items) m (came_by (in_here here n) (value_of a m side.known l.slots e)) (turned here l more items n e step body (value_of a m side.known l.slots e)) m
+    pub turns : (e : Term) (step body : Codes) → IsTested (Code.Loop n e step body) e (turned here l more items n e step body)
     -- 6.8.2, without a tick
     pub enters : (body : Codes) → IsSame side (holds Runs here l (Codes.Then (Code.Block body) more) items) (holds_block here l more items body)
     -- 6.8.6

@@ -57,6 +57,10 @@ entering_memory a asks [] m = m
 entering_memory a false (s ∷ shapes) m = (a.birth m (s ∷ shapes)).memory
 entering_memory a true (s ∷ shapes) m = m
 
+-- none of a function's objects is left
+abbrev pub emptied : Locals → Locals
+emptied l = record { slots = l.slots; born = [] }
+
 -- the parameters are filled, and the body runs
 abbrev pub filled_after : Here → Codes → List Item → Result Locals StopKind → Held
 filled_after here ahead items (Ok l) = holds Runs here l ahead items
@@ -93,12 +97,12 @@ module _ {M : Type 0} (a : Accesses M) (side : Side) (here : Here) (l : Locals) 
     -- what is left of a function's objects dies (6.2.4), and then its caller goes on
     pub function_dies : (flow : Flow) (end : Item) → IsEnd end
         → Steps a side (holds (Unwinds flow) here l ahead (end ∷ items)) m (dying_came side.asks (in_here here 0) l.born)
-        (holds (dying_front side.asks l.born (flow_after l.born flow)) here (record { slots = l.slots; born = [] }) ahead (end ∷ items)) (dying_memory a side.asks l.born m)
+        (holds (dying_front side.asks l.born (flow_after l.born flow)) here (emptied l) ahead (end ∷ items)) (dying_memory a side.asks l.born m)
     pub call_left : (flow : Flow) (outer : Frame) (n : ℕ) (goal : Goal)
-        → IsSame side (holds (Unwinds flow) here (record { slots = l.slots; born = [] }) ahead (Caller outer n goal ∷ items)) (holds (Comes n goal (returned flow)) outer.here outer.locals outer.ahead items)
+        → IsSame side (holds (Unwinds flow) here (emptied l) ahead (Caller outer n goal ∷ items)) (holds (Comes n goal (returned flow)) outer.here outer.locals outer.ahead items)
     -- a function that was started ends, and the work that it was started over is as it was
     pub start_left : (flow : Flow) (outer : Frame) (front : Front)
-        → Steps a side (holds (Unwinds flow) here (record { slots = l.slots; born = [] }) ahead (Base outer front ∷ items)) m (Ended (returned flow)) (record { frame = outer; front = front; items = items }) m
+        → Steps a side (holds (Unwinds flow) here (emptied l) ahead (Base outer front ∷ items)) m (Ended (returned flow)) (record { frame = outer; front = front; items = items }) m
     -- the value of a call goes where the statement says
     pub comes : (n : ℕ) (goal : Goal) (v : Wire)
         → Steps a side (holds (Comes n goal v) here l ahead items) m (came_by (in_here here n) (keep_of a side.known here goal v l m).result)
@@ -107,7 +111,8 @@ module _ {M : Type 0} (a : Accesses M) (side : Side) (here : Here) (l : Locals) 
     pub begins : Steps a side (holds Enters here l ahead items) m (entering_came side.asks (in_here here 0) (param_shapes side.known here.slots))
         (holds (entering_front a side.asks (param_shapes side.known here.slots) (object_params 0 here.slots) m) here l ahead items) (entering_memory a side.asks (param_shapes side.known here.slots) m)
     pub fills : (is : List ℕ) (ps : List Wire)
-        → Steps a side (holds (Fills is ps) here l ahead items) m (came_by (in_here here 0) (fills_of a is ps l m).result) (filled_after here ahead items (fills_of a is ps l m).result) (fills_of a is ps l m).memory
+        → Steps a side (holds (Fills is ps) here l ahead items) m (came_by (in_here here 0) (fills_of a is ps l m).result)
+        (filled_after here ahead items (fills_of a is ps l m).result) (fills_of a is ps l m).memory
     -- the object of a local was born
     pub born : (i : ℕ) (p : Wire) → IsSame side (holds (held.Born i p) here l ahead items) (holds Runs here (with_object i p l) ahead items)
 

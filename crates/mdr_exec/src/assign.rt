@@ -1,23 +1,18 @@
 // Values are stored.
 
-ghost use Rattle.std.specs.Prelude.{◌≡◌, ◌<◌, ℕ, true, List, Ok, Some};
-ghost use Rattle.mdr_core.specs.Code.{Code, Term};
+ghost use Rattle.std.specs.Prelude.{◌≡◌, ◌<◌, true};
+ghost use Rattle.mdr_core.specs.Code.{Code};
 ghost use Rattle.mdr_core.specs.Folds.{lvalue_of, term_of};
 ghost use Rattle.mdr_core.specs.Sound.{IsSound};
-ghost use Rattle.mdr_meaning.specs.declared.wire.Wire.{Wire as AnyWire};
 ghost use Rattle.mdr_meaning.specs.Bodies.{known_of};
-ghost use Rattle.mdr_meaning.specs.Sides.{Locals, Side as AnySide, in_here};
 ghost use Rattle.mdr_meaning.specs.Values.{wire_of};
 ghost use Rattle.mdr_events.specs.Outcomes.{when_made, wired};
-ghost use Rattle.mdr_events.specs.Steps.{Ticks};
 ghost use Rattle.mdr_events.specs.Values.{wires_of};
 ghost use Rattle.mdr_exec.specs.Beginning.{came_of};
-ghost use Rattle.mdr_exec.specs.Effects.{after_result, did, put_of, stored};
-ghost use Rattle.mdr_exec.specs.Evaluation.{place_of, value_of};
-ghost use Rattle.mdr_exec.specs.Holding.{block_of, held_of, is_running};
-ghost use Rattle.mdr_exec.specs.Leaving.{here_in};
-ghost use Rattle.mdr_exec.specs.Places.{code_at};
-ghost use Rattle.mdr_exec.specs.Storing.{slot_named, with_slots};
+ghost use Rattle.mdr_exec.specs.Evaluation.{place_of};
+ghost use Rattle.mdr_exec.specs.Executing.{Begins, BeginsAssigning};
+ghost use Rattle.mdr_exec.specs.Holding.{is_running};
+ghost use Rattle.mdr_exec.specs.Storing.{Puts, Stores, slot_named};
 
 use crate::evaluate::{evaluated, located};
 use crate::frame::Machine;
@@ -31,7 +26,7 @@ pub(crate) fn stored<C: Memory>(
     place: Result<Value, StopKind>,
     value: Value,
 ) -> Result<(), StopKind>
-    ensures { (l : Locals) → after_result (wired place) memory.old (λ p m. stored C.accesses p (wire_of value) l m) ≡ did (when_made result l) memory.new }
+    ensures { Stores C.accesses (wired place) (wire_of value) memory.old result memory.new }
 {
     match place {
         Ok(pointer) => memory.store(pointer, value),
@@ -48,7 +43,7 @@ fn put_at<C: Memory>(
     value: Value,
 ) -> Result<(), StopKind>
     requires { IsSound program.now }
-    ensures { (l : Locals) → after_result (place_of C.accesses memory.old (known_of program.now) (wires_of slots.now) (lvalue_of p.now)) memory.old (λ q m. stored C.accesses q (wire_of value) l m) ≡ did (when_made result l) memory.new }
+    ensures { Stores C.accesses (place_of C.accesses memory.old (known_of program.now) (wires_of slots.now) (lvalue_of p.now)) (wire_of value) memory.old result memory.new }
 {
     stored(memory, located(program, memory, slots, p), value)
 }
@@ -76,7 +71,7 @@ pub(crate) fn put<C: Memory>(
     value: Value,
 ) -> Result<(), StopKind>
     requires { IsSound program.now }
-    ensures { (born : List AnyWire) → put_of C.accesses (known_of program.now) (lvalue_of p.now) (wire_of value) (with_slots slots.old born) memory.old ≡ did (when_made result (with_slots slots.new born)) memory.new }
+    ensures { Puts C.accesses program.now (lvalue_of p.now) (wire_of value) slots.old memory.old (when_made result) slots.new memory.new }
 {
     match slot_named(p) {
         Some(i) => {
@@ -98,7 +93,7 @@ fn assign<C: Memory>(
     requires program { IsSound program.now }
     requires runs { is_running machine.old.front ≡ true }
     requires next { machine.old.top.next < 18446744073709551615 }
-    ensures { (side : AnySide) (n : ℕ) (e : Term) → Ok (wire_of value) ≡ value_of C.accesses memory.old (known_of program.now) (wires_of machine.old.top.slots) e → side.known ≡ known_of program.now → code_at (block_of program.now machine.old.top) machine.old.top.next ≡ Some (Code.Assign n (lvalue_of p.now) e) → Ticks C.accesses side (held_of program.now machine.old) memory.old (came_of result (in_here (here_in program.now machine.old) n)) (held_of program.now machine.new) memory.new }
+    ensures { BeginsAssigning C.accesses program.now machine.old memory.old (lvalue_of p.now) (wire_of value) (came_of result) machine.new memory.new }
 {
     let done = put(program, memory, &mut machine.top.slots, p, value);
     match done {
@@ -121,7 +116,7 @@ pub(crate) fn begin_assign<C: Memory>(
     requires program { IsSound program.now }
     requires runs { is_running machine.old.front ≡ true }
     requires next { machine.old.top.next < 18446744073709551615 }
-    ensures { (side : AnySide) (n : ℕ) → side.known ≡ known_of program.now → code_at (block_of program.now machine.old.top) machine.old.top.next ≡ Some (Code.Assign n (lvalue_of p.now) (term_of e.now)) → Ticks C.accesses side (held_of program.now machine.old) memory.old (came_of result (in_here (here_in program.now machine.old) n)) (held_of program.now machine.new) memory.new }
+    ensures { Begins C.accesses program.now machine.old memory.old (λ n. Code.Assign n (lvalue_of p.now) (term_of e.now)) (came_of result) machine.new memory.new }
 {
     let value = evaluated(program, memory, machine.top.slots.as_slice(), e);
     match value {

@@ -1,18 +1,16 @@
 // Statements begin, each with its tick.
 
-ghost use Rattle.std.specs.Prelude.{◌≡◌, ◌<◌, ℕ, true, IfOk, OnOk, None, Some};
+ghost use Rattle.std.specs.Prelude.{◌≡◌, ◌<◌, true, IfOk, OnOk, None, Some};
 ghost use Rattle.std.specs.Option.{option_copied};
 ghost use Rattle.mdr_core.specs.declared.program.Program.{Program as AnyProgram};
 ghost use Rattle.mdr_core.specs.Code.{Code, Codes, Way};
 ghost use Rattle.mdr_core.specs.Folds.{term_of, test_of};
 ghost use Rattle.mdr_core.specs.Sound.{IsSound};
-ghost use Rattle.mdr_meaning.specs.Bodies.{known_of};
-ghost use Rattle.mdr_meaning.specs.Sides.{Side as AnySide, flow_of, in_here};
-ghost use Rattle.mdr_events.specs.Steps.{Goes, IsSame, Ticks};
+ghost use Rattle.mdr_meaning.specs.Sides.{Side as AnySide, flow_of};
+ghost use Rattle.mdr_events.specs.Steps.{Goes};
 ghost use Rattle.mdr_exec.specs.Beginning.{branch, came_of};
-ghost use Rattle.mdr_exec.specs.Holding.{block_of, flow_as, held_of, is_running};
-ghost use Rattle.mdr_exec.specs.Leaving.{here_in};
-ghost use Rattle.mdr_exec.specs.Places.{code_at};
+ghost use Rattle.mdr_exec.specs.Executing.{Begins, BeginsIf, BeginsLoop, BeginsOnEach, HoldsSame, StandsAt};
+ghost use Rattle.mdr_exec.specs.Holding.{flow_as, is_running};
 
 use crate::evaluate::evaluated;
 use crate::frame::{Flow, Machine};
@@ -41,7 +39,7 @@ pub(crate) fn begin_if<C: Memory>(
     requires program { IsSound program.now }
     requires runs { is_running machine.old.front ≡ true }
     requires next { machine.old.top.next < 18446744073709551615 }
-    ensures { IfOk result (λ r. (side : AnySide) (n : ℕ) (one other : Codes) → side.known ≡ known_of program.now → code_at (block_of program.now machine.old.top) machine.old.top.next ≡ Some (Code.If n (term_of test.now) one other) → Ticks C.accesses side (held_of program.now machine.old) memory.now (came_of r (in_here (here_in program.now machine.old) n)) (held_of program.now machine.new) memory.now) }
+    ensures { IfOk result (λ r. BeginsIf C.accesses program.now machine.old memory.now (term_of test.now) (came_of r) machine.new memory.now) }
 {
     let value = evaluated(program, memory, machine.top.slots.as_slice(), test);
     match value {
@@ -64,7 +62,7 @@ fn begin_turn<C: Memory>(
     requires program { IsSound program.now }
     requires runs { is_running machine.old.front ≡ true }
     requires next { machine.old.top.next < 18446744073709551615 }
-    ensures { IfOk result (λ r. (side : AnySide) (n : ℕ) (step body : Codes) → side.known ≡ known_of program.now → code_at (block_of program.now machine.old.top) machine.old.top.next ≡ Some (Code.Loop n (term_of test.now) step body) → Ticks C.accesses side (held_of program.now machine.old) memory.now (came_of r (in_here (here_in program.now machine.old) n)) (held_of program.now machine.new) memory.now) }
+    ensures { IfOk result (λ r. BeginsLoop C.accesses program.now machine.old memory.now (term_of test.now) (came_of r) machine.new memory.now) }
 {
     let value = evaluated(program, memory, machine.top.slots.as_slice(), test);
     match value {
@@ -92,7 +90,7 @@ pub(crate) fn begin_loop<C: Memory>(
     requires program { IsSound program.now }
     requires runs { is_running machine.old.front ≡ true }
     requires next { machine.old.top.next < 18446744073709551615 }
-    ensures { IfOk result (λ r. (side : AnySide) (n : ℕ) (step body : Codes) → side.known ≡ known_of program.now → code_at (block_of program.now machine.old.top) machine.old.top.next ≡ Some (Code.Loop n (test_of (option_copied test.entry)) step body) → Ticks C.accesses side (held_of program.now machine.old) memory.now (came_of r (in_here (here_in program.now machine.old) n)) (held_of program.now machine.new) memory.now) }
+    ensures { IfOk result (λ r. BeginsLoop C.accesses program.now machine.old memory.now (test_of (option_copied test.entry)) (came_of r) machine.new memory.now) }
 {
     match test {
         Some(test) => {
@@ -122,7 +120,7 @@ pub(crate) fn begin_return_value<C: Memory>(
     requires program { IsSound program.now }
     requires runs { is_running machine.old.front ≡ true }
     requires next { machine.old.top.next < 18446744073709551615 }
-    ensures { (side : AnySide) (n : ℕ) → side.known ≡ known_of program.now → code_at (block_of program.now machine.old.top) machine.old.top.next ≡ Some (Code.Return n (Some (term_of e.now))) → Ticks C.accesses side (held_of program.now machine.old) memory.now (came_of result (in_here (here_in program.now machine.old) n)) (held_of program.now machine.new) memory.now }
+    ensures { Begins C.accesses program.now machine.old memory.now (λ n. Code.Return n (Some (term_of e.now))) (came_of result) machine.new memory.now }
 {
     let value = evaluated(program, memory, machine.top.slots.as_slice(), e);
     match value {
@@ -138,7 +136,7 @@ pub(crate) fn begin_return_value<C: Memory>(
 pub(crate) fn begin_return<C: Memory>(machine: &mut Machine, memory: &C)
     requires runs { is_running machine.old.front ≡ true }
     requires next { machine.old.top.next < 18446744073709551615 }
-    ensures { (program : AnyProgram) (side : AnySide) (n : ℕ) → code_at (block_of program machine.old.top) machine.old.top.next ≡ Some (Code.Return n None) → Ticks C.accesses side (held_of program machine.old) memory.now Goes (held_of program machine.new) memory.now }
+    ensures { (program : AnyProgram) → BeginsOnEach C.accesses program machine.old memory.now (λ n. Code.Return n None) (λ p. Goes) machine.new memory.now }
 {
     go_past(machine, Flow::Returns(Value::NoValue), machine.top.next + 1);
 }
@@ -147,7 +145,7 @@ pub(crate) fn begin_return<C: Memory>(machine: &mut Machine, memory: &C)
 pub(crate) fn begin_jump<C: Memory>(machine: &mut Machine, memory: &C, flow: Flow)
     requires runs { is_running machine.old.front ≡ true }
     requires next { machine.old.top.next < 18446744073709551615 }
-    ensures { (program : AnyProgram) (side : AnySide) (n : ℕ) (way : Way) → flow_as flow ≡ flow_of way → code_at (block_of program machine.old.top) machine.old.top.next ≡ Some (Code.Jump n way) → Ticks C.accesses side (held_of program machine.old) memory.now Goes (held_of program machine.new) memory.now }
+    ensures { (program : AnyProgram) (way : Way) → flow_as flow ≡ flow_of way → BeginsOnEach C.accesses program machine.old memory.now (λ n. Code.Jump n way) (λ p. Goes) machine.new memory.now }
 {
     go_past(machine, flow, machine.top.next + 1);
 }
@@ -156,7 +154,7 @@ pub(crate) fn begin_jump<C: Memory>(machine: &mut Machine, memory: &C, flow: Flo
 pub(crate) fn begin_block(machine: &mut Machine, alloc: Global) -> Result<(), AllocError>
     requires runs { is_running machine.old.front ≡ true }
     requires next { machine.old.top.next < 18446744073709551615 }
-    ensures { OnOk result ((program : AnyProgram) (side : AnySide) (body : Codes) → code_at (block_of program machine.old.top) machine.old.top.next ≡ Some (Code.Block body) → IsSame side (held_of program machine.old) (held_of program machine.new)) }
+    ensures { OnOk result ((program : AnyProgram) (side : AnySide) (body : Codes) → StandsAt program machine.old (Code.Block body) → HoldsSame side program machine.old machine.new) }
 {
     enter(machine, alloc, Part::Inner)?;
     Ok(())

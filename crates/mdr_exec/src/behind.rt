@@ -2,12 +2,10 @@
 
 ghost use Rattle.std.specs.Prelude.{◌≡◌, ◌++◌, ◌∷◌, [], List, None, true, IfSome};
 ghost use Rattle.mdr_meaning.specs.Sides.{Side as AnySide};
-ghost use Rattle.mdr_events.specs.Steps.{IsSame};
 ghost use Rattle.mdr_exec.specs.declared.places.Position.{Position as AnyPosition};
-ghost use Rattle.mdr_exec.specs.Behind.{GoesOnAt, is_stepless};
-ghost use Rattle.mdr_exec.specs.Found.{body_codes};
-ghost use Rattle.mdr_exec.specs.Holding.{block_of, held_of, is_running};
-ghost use Rattle.mdr_exec.specs.Places.{code_at, code_before, inner};
+ghost use Rattle.mdr_exec.specs.Behind.{GoesOnAt, code_behind, is_stepless};
+ghost use Rattle.mdr_exec.specs.Executing.{HoldsSame, next_in};
+ghost use Rattle.mdr_exec.specs.Holding.{is_running};
 ghost use Rattle.mdr_exec.specs.Quick.{IsAsBefore};
 
 use crate::frame::Machine;
@@ -18,7 +16,7 @@ use std::alloc::Global;
 
 /// Whether a `while` stands in front of a place, where the path to it leads through no `for`.
 fn is_behind_while(program: &Program, func: u32, path: &[Position], next: usize) -> bool
-    ensures { result ≡ true → is_stepless (code_before (inner path.now (body_codes program.now func)) next) ≡ true }
+    ensures { result ≡ true → is_stepless (code_behind program.now func path.now next) ≡ true }
 {
     if next == 0 {
         return false;
@@ -35,7 +33,7 @@ fn is_behind_while(program: &Program, func: u32, path: &[Position], next: usize)
 /// What comes next in the block around, once the innermost list was left: the loop again of which it was a turn, else what
 /// follows.
 fn next_behind(machine: &Machine, program: &Program) -> Option<usize>
-    ensures { IfSome result (λ next. (path : List AnyPosition) (p : AnyPosition) → machine.now.top.path ≡ path ++ p ∷ [] → GoesOnAt p (code_before (inner path (body_codes program.now machine.now.top.func)) p.next) next) }
+    ensures { IfSome result (λ next. (path : List AnyPosition) (p : AnyPosition) → machine.now.top.path ≡ path ++ p ∷ [] → GoesOnAt p (code_behind program.now machine.now.top.func path p.next) next) }
 {
     match machine.top.path.as_slice().split_last() {
         Some((p, path)) => match p.part {
@@ -56,8 +54,8 @@ fn next_behind(machine: &Machine, program: &Program) -> Option<usize>
 /// The innermost list of statements is left behind its last one, where no object was born in it; or nothing is done.
 pub(crate) fn leave_at_once(machine: &mut Machine, alloc: Global, program: &Program) -> bool
     requires runs { is_running machine.old.front ≡ true }
-    requires ends { code_at (block_of program.now machine.old.top) machine.old.top.next ≡ None }
-    ensures same { (side : AnySide) → IsSame side (held_of program.now machine.old) (held_of program.now machine.new) }
+    requires ends { next_in program.now machine.old ≡ None }
+    ensures same { (side : AnySide) → HoldsSame side program.now machine.old machine.new }
     ensures as_before { IsAsBefore machine.old machine.new }
 {
     if !machine.top.born.is_empty() {

@@ -1,18 +1,18 @@
 // A call is made.
 
-ghost use Rattle.std.specs.Prelude.{◌≡◌, ◌<◌, true, IfOk, OnOk, Ok, Some};
+ghost use Rattle.std.specs.Prelude.{◌≡◌, ◌<◌, true, IfOk, OnOk, Ok};
 ghost use Rattle.mdr_core.specs.declared.program.Program.{Program as AnyProgram};
 ghost use Rattle.mdr_core.specs.Code.{Code, Goal};
 ghost use Rattle.mdr_core.specs.Folds.{call_of};
 ghost use Rattle.mdr_core.specs.Sound.{IsSound};
-ghost use Rattle.mdr_events.specs.Steps.{Crosses, Ticks};
+ghost use Rattle.mdr_events.specs.Steps.{Crosses};
 ghost use Rattle.mdr_events.specs.Values.{wires_of};
 ghost use Rattle.mdr_exec.specs.Events.{came_as, came_with};
 ghost use Rattle.mdr_exec.specs.Calling.{Entering, IsShallow};
-ghost use Rattle.mdr_exec.specs.Halves.{HoldsCall, awaits, body_in, calling_as, side_in};
-ghost use Rattle.mdr_exec.specs.Holding.{block_of, held_of, is_running};
+ghost use Rattle.mdr_exec.specs.Executing.{ExecutesOwn};
+ghost use Rattle.mdr_exec.specs.Halves.{HoldsCall, awaits, body_in, calling_as};
+ghost use Rattle.mdr_exec.specs.Holding.{held_of, is_running};
 ghost use Rattle.mdr_exec.specs.Leaving.{here_in};
-ghost use Rattle.mdr_exec.specs.Places.{code_at};
 ghost use Rattle.mdr_exec.specs.StatementSteps.{call_came};
 
 use crate::calling::{Calling, Calls, called};
@@ -118,7 +118,7 @@ pub(crate) fn begin_call<C: Memory>(
     requires program { IsSound program.now }
     requires runs { is_running machine.old.front ≡ true }
     requires next { machine.old.top.next < 18446744073709551615 }
-    ensures { IfOk result (λ e. (goal : Goal) → code_at (block_of program.now machine.old.top) machine.old.top.next ≡ Some (Code.Call number goal (call_of form.now)) → Ticks C.accesses (side_in machine.old.side halves.now program.now) (held_of program.now machine.old) memory.now (came_as e) (held_of program.now machine.new) memory.now) }
+    ensures { IfOk result (λ e. (goal : Goal) → ExecutesOwn C.accesses halves.now program.now machine.old memory.now (Code.Call number goal (call_of form.now)) (came_as e) machine.new memory.now) }
 {
     let at = At {
         func: machine.top.func,

@@ -1,22 +1,22 @@
 // What a call comes to before anything of it runs (C99 6.5.2.2).
 
-ghost use Rattle.std.specs.Prelude.{◌≡◌, ◌==◌, [], IfOk, Ok, option_copied, unwrap_or};
+ghost use Rattle.std.specs.Prelude.{◌≡◌, [], IfOk, option_copied, unwrap_or};
 ghost use Rattle.mdr_core.specs.declared.program.Program.{Program as AnyProgram};
+ghost use Rattle.mdr_core.specs.Code.{Called};
 ghost use Rattle.mdr_core.specs.Folds.{call_of, term_of};
-ghost use Rattle.mdr_core.specs.Layout.{chosen};
 ghost use Rattle.mdr_core.specs.Services.{service_numbered};
 ghost use Rattle.mdr_core.specs.Sound.{IsSound};
-ghost use Rattle.mdr_meaning.specs.Asking.{allocated, counted};
+ghost use Rattle.mdr_meaning.specs.Asking.{allocated};
 ghost use Rattle.mdr_meaning.specs.Bodies.{known_of};
 ghost use Rattle.mdr_meaning.specs.Calls.{function_of};
 ghost use Rattle.mdr_meaning.specs.Lives.{asked_for};
 ghost use Rattle.mdr_meaning.specs.Printed.{print_text};
-ghost use Rattle.mdr_meaning.specs.Values.{first_of, rest_of, wire_of};
+ghost use Rattle.mdr_meaning.specs.Values.{wire_of};
 ghost use Rattle.mdr_events.specs.Outcomes.{all_wired};
 ghost use Rattle.mdr_events.specs.Values.{wires_of};
-ghost use Rattle.mdr_exec.specs.Calling.{Asking, called_of, direct_of, goes_by, served_by, through_of};
-ghost use Rattle.mdr_exec.specs.Evaluation.{after_value, value_of, values_of};
-ghost use Rattle.mdr_exec.specs.Halves.{called_as, calling_as, here_at, side_at, taking_by};
+ghost use Rattle.mdr_exec.specs.Calling.{Asking, delivered, direct_of, goes_by, served_of, service_of, through_of};
+ghost use Rattle.mdr_exec.specs.Evaluation.{after_value, values_of};
+ghost use Rattle.mdr_exec.specs.Halves.{called_as, called_at, called_through_at, calling_as, here_at, side_at, taking_by};
 
 use crate::arguments::{rest, second, values};
 use crate::evaluate::evaluated;
@@ -239,7 +239,7 @@ fn asks_to_deliver<C: Memory>(
     at: At,
     args: &[Value],
 ) -> Result<Result<Calling, StopKind>, AllocError>
-    ensures { IfOk result (λ r. (program : AnyProgram) → called_as program r ≡ after_value (C.accesses.read memory.now (first_of (wires_of args.now)) (counted (first_of (rest_of (wires_of args.now))))) (λ bytes. Ok (Asking (asked_for service at [] [] bytes)))) }
+    ensures { IfOk result (λ r. (program : AnyProgram) → called_as program r ≡ delivered C.accesses memory.now service at (wires_of args.now)) }
 {
     let count = counted(second(args));
     let read = memory.read(alloc, first(args), count)?;
@@ -294,7 +294,7 @@ fn served<C: Memory>(
     at: At,
     args: Items<Value>,
 ) -> Result<Result<Calling, StopKind>, AllocError>
-    ensures { IfOk result (λ r. called_as calls.entry.program.now r ≡ served_by C.accesses (side_at calls.entry) (here_at calls.entry) memory.now at (call_of form.now) service (wires_of args) (service_numbered service)) }
+    ensures { IfOk result (λ r. called_as calls.entry.program.now r ≡ served_of C.accesses (side_at calls.entry) (here_at calls.entry) memory.now at (call_of form.now) service (wires_of args)) }
 {
     match taken_by(service) {
         Taking::Object => {
@@ -335,7 +335,7 @@ fn service_with<C: Memory>(
     at: At,
     args: Items<Value>,
 ) -> Result<Result<Calling, StopKind>, AllocError>
-    ensures { IfOk result (λ r. called_as calls.entry.program.now r ≡ chosen (service == 15) (through_of C.accesses (side_at calls.entry) (here_at calls.entry) memory.now (first_of (wires_of args)) (rest_of (wires_of args))) (served_by C.accesses (side_at calls.entry) (here_at calls.entry) memory.now at (call_of form.now) service (wires_of args) (service_numbered service))) }
+    ensures { IfOk result (λ r. called_as calls.entry.program.now r ≡ service_of C.accesses (side_at calls.entry) (here_at calls.entry) memory.now at (call_of form.now) service (wires_of args)) }
 {
     if service == 15 {
         let rest = rest(alloc, args.as_slice())?;
@@ -376,7 +376,7 @@ fn called_through<C: Memory>(
     e: &Expr,
 ) -> Result<Result<Calling, StopKind>, AllocError>
     requires { IsSound calls.program.now }
-    ensures { IfOk result (λ r. called_as calls.entry.program.now r ≡ after_value (value_of C.accesses memory.now (known_of calls.entry.program.now) (wires_of calls.entry.machine.now.top.slots) (term_of e.now)) (λ v. after_value (values_of C.accesses memory.now (known_of calls.entry.program.now) (wires_of calls.entry.machine.now.top.slots) (call_of form.now).args) (λ vs. through_of C.accesses (side_at calls.entry) (here_at calls.entry) memory.now v vs))) }
+    ensures { IfOk result (λ r. called_as calls.entry.program.now r ≡ called_through_at C.accesses calls.entry memory.now (call_of form.now) (term_of e.now)) }
 {
     let callee = evaluated(calls.program, memory, calls.machine.top.slots.as_slice(), e);
     match callee {
@@ -397,7 +397,7 @@ fn called_service<C: Memory>(
     at: At,
 ) -> Result<Result<Calling, StopKind>, AllocError>
     requires { IsSound calls.program.now }
-    ensures { IfOk result (λ r. called_as calls.entry.program.now r ≡ after_value (values_of C.accesses memory.now (known_of calls.entry.program.now) (wires_of calls.entry.machine.now.top.slots) (call_of form.now).args) (λ vs. chosen (service == 15) (through_of C.accesses (side_at calls.entry) (here_at calls.entry) memory.now (first_of vs) (rest_of vs)) (served_by C.accesses (side_at calls.entry) (here_at calls.entry) memory.now at (call_of form.now) service vs (service_numbered service)))) }
+    ensures { IfOk result (λ r. called_as calls.entry.program.now r ≡ called_at C.accesses calls.entry memory.now at (call_of form.now) (Called.Service service)) }
 {
     let args = arguments(calls, alloc, memory, form)?;
     match args {
@@ -418,7 +418,7 @@ pub(crate) fn called<C: Memory>(
     at: At,
 ) -> Result<Result<Calling, StopKind>, AllocError>
     requires { IsSound calls.program.now }
-    ensures { IfOk result (λ r. called_as calls.entry.program.now r ≡ called_of C.accesses (side_at calls.entry) (here_at calls.entry) memory.now at (call_of form.now) (wires_of calls.entry.machine.now.top.slots) (call_of form.now).callee) }
+    ensures { IfOk result (λ r. called_as calls.entry.program.now r ≡ called_at C.accesses calls.entry memory.now at (call_of form.now) (call_of form.now).callee) }
 {
     match &form.callee {
         Callee::Direct(func) => {

@@ -3,17 +3,14 @@
 ghost use Rattle.std.specs.Prelude.{◌≡◌, [], MatchOption};
 ghost use Rattle.std.specs.List.{list_any};
 ghost use Rattle.std.specs.Option.{option_map};
-ghost use Rattle.mdr_core.specs.declared.program.Program.{Program as AnyProgram};
 ghost use Rattle.mdr_meaning.specs.Lives.{after_deaths, is_into, returned};
-ghost use Rattle.mdr_meaning.specs.Sides.{Side as AnySide, in_here};
 ghost use Rattle.mdr_meaning.specs.Values.{wire_of};
-ghost use Rattle.mdr_events.specs.Steps.{IsSame, Steps};
 ghost use Rattle.mdr_events.specs.Values.{wires_of};
 ghost use Rattle.mdr_exec.specs.declared.frame.Front.TheVariants as front;
-ghost use Rattle.mdr_exec.specs.Closing.{DiesAt, Finishes, asked_to_die, asks_on};
-ghost use Rattle.mdr_exec.specs.Holding.{flow_as, held_of};
-ghost use Rattle.mdr_exec.specs.Leaving.{here_in};
+ghost use Rattle.mdr_exec.specs.Closing.{asked_to_die, asks_on};
+ghost use Rattle.mdr_exec.specs.Holding.{flow_as};
 ghost use Rattle.mdr_exec.specs.Unwinding.{dying_came, dying_memory, flow_after};
+ghost use Rattle.mdr_exec.specs.Went.{Dies, EndsWith, StillHolds};
 
 use crate::frame::{Flow, Front, Machine, Side, Suspended, Until};
 use crate::leave::last_off;
@@ -112,7 +109,7 @@ pub(crate) fn die<C: Memory>(
     requires unwinds { machine.old.front ≡ front.Unwinds flow }
     ensures asked { option_map wires_of result ≡ asked_to_die (asks_on machine.old.side) (wires_of machine.old.top.born) }
     ensures dead { memory.new ≡ dying_memory C.accesses (asks_on machine.old.side) (wires_of machine.old.top.born) memory.old }
-    ensures step { (program : AnyProgram) (side : AnySide) → DiesAt (flow_as flow) (held_of program machine.old).items → side.asks ≡ asks_on machine.old.side → Steps C.accesses side (held_of program machine.old) memory.old (dying_came side.asks (in_here (here_in program machine.old) 0) (wires_of machine.old.top.born)) (held_of program machine.new) memory.new }
+    ensures step { Dies C.accesses machine.old memory.old (flow_as flow) (λ asks p. dying_came asks p (wires_of machine.old.top.born)) machine.new memory.new }
 {
     let born = mem::replace(&mut machine.top.born, Items::new(alloc));
     if born.is_empty() {
@@ -135,7 +132,7 @@ pub(crate) fn end_function(machine: &mut Machine, alloc: Global, flow: Flow) -> 
     requires outside { machine.old.top.path ≡ [] }
     requires none { machine.old.top.born ≡ [] }
     requires started { machine.old.below ≡ [] → ⊥ }
-    ensures { MatchOption result ((program : AnyProgram) (side : AnySide) → IsSame side (held_of program machine.old) (held_of program machine.new)) (λ v. (program : AnyProgram) (side : AnySide) → Finishes side (held_of program machine.old) (wire_of v) (held_of program machine.new)) }
+    ensures { MatchOption result (StillHolds machine.old machine.new) (λ v. EndsWith machine.old (wire_of v) machine.new) }
 {
     match last_off(alloc, &mut machine.below) {
         Some(Suspended { frame, until }) => {

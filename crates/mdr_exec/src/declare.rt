@@ -1,19 +1,13 @@
 // Declarations: a slot is zeroed, or an object is born.
 
-ghost use Rattle.std.specs.Prelude.{◌≡◌, ◌<◌, [], ◌∷◌, ℕ, true, false, IfOk, OnOk, Some, None, Option, slice_get};
-ghost use Rattle.mdr_core.specs.declared.program.Program.{Program as AnyProgram};
-ghost use Rattle.mdr_core.specs.Code.{Code};
-ghost use Rattle.mdr_core.specs.Typing.{Slot};
-ghost use Rattle.mdr_meaning.specs.Bodies.{known_of};
-ghost use Rattle.mdr_meaning.specs.Lives.{asked_for, shape_of};
-ghost use Rattle.mdr_meaning.specs.Sides.{Side as AnySide};
+ghost use Rattle.std.specs.Prelude.{◌≡◌, ◌<◌, [], ◌∷◌, ℕ, true, false, IfOk, OnOk, Option};
+ghost use Rattle.mdr_meaning.specs.Lives.{asked_for};
 ghost use Rattle.mdr_meaning.specs.Values.{first_of, wire_of};
 ghost use Rattle.mdr_events.specs.Events.{asked_as};
-ghost use Rattle.mdr_events.specs.Steps.{Goes, Ticks};
-ghost use Rattle.mdr_exec.specs.Declaring.{slot_as};
+ghost use Rattle.mdr_events.specs.Steps.{Goes};
+ghost use Rattle.mdr_exec.specs.Declaring.{Declares, DeclaresNothing, DeclaresObject, DeclaresSlot, HasSlot, slot_as};
 ghost use Rattle.mdr_exec.specs.Events.{came_as, came_with};
-ghost use Rattle.mdr_exec.specs.Holding.{block_of, held_of, is_running, slots_by};
-ghost use Rattle.mdr_exec.specs.Places.{code_at};
+ghost use Rattle.mdr_exec.specs.Holding.{is_running};
 
 use crate::event::Outcome;
 use crate::frame::{Flow, Front, Machine};
@@ -30,7 +24,7 @@ use std::alloc::{AllocError, Global};
 fn declare_nothing<C: Memory>(machine: &mut Machine, memory: &C)
     requires runs { is_running machine.old.front ≡ true }
     requires next { machine.old.top.next < 18446744073709551615 }
-    ensures { (program : AnyProgram) (side : AnySide) (n i : ℕ) → slice_get (slots_by (slice_get program.funcs machine.old.top.func)) i ≡ None → code_at (block_of program machine.old.top) machine.old.top.next ≡ Some (Code.Declare n i) → Ticks C.accesses side (held_of program machine.old) memory.now Goes (held_of program machine.new) memory.now }
+    ensures { (i : ℕ) → DeclaresNothing C.accesses machine.old memory.now i machine.new memory.now }
 {
     go_past(machine, Flow::Ends, machine.top.next + 1);
 }
@@ -39,7 +33,7 @@ fn declare_nothing<C: Memory>(machine: &mut Machine, memory: &C)
 fn declare_slot<C: Memory>(machine: &mut Machine, memory: &C, i: u32, ty: &Ty)
     requires runs { is_running machine.old.front ≡ true }
     requires next { machine.old.top.next < 18446744073709551615 }
-    ensures { (program : AnyProgram) (side : AnySide) (n : ℕ) (s : Slot) → slice_get (slots_by (slice_get program.funcs machine.old.top.func)) i ≡ Some s → s.object ≡ false → s.ty ≡ ty.now → code_at (block_of program machine.old.top) machine.old.top.next ≡ Some (Code.Declare n i) → Ticks C.accesses side (held_of program machine.old) memory.now Goes (held_of program machine.new) memory.now }
+    ensures { DeclaresSlot C.accesses machine.old memory.now i ty.now machine.new memory.now }
 {
     machine
         .top
@@ -67,7 +61,7 @@ fn bear<C: Memory>(
 ) -> Result<(), AllocError>
     requires runs { is_running machine.old.front ≡ true }
     requires next { machine.old.top.next < 18446744073709551615 }
-    ensures { OnOk result ((program : AnyProgram) (side : AnySide) (n : ℕ) (s : Slot) → slice_get (slots_by (slice_get program.funcs machine.old.top.func)) i ≡ Some s → s.object ≡ true → side.asks ≡ false → shape ≡ shape_of side.known s → code_at (block_of program machine.old.top) machine.old.top.next ≡ Some (Code.Declare n i) → Ticks C.accesses side (held_of program machine.old) memory.old Goes (held_of program machine.new) memory.new) }
+    ensures { OnOk result (DeclaresObject C.accesses machine.old memory.old i shape false Goes machine.new memory.new) }
 {
     let pointer = born_one(memory, alloc, shape)?;
     machine.top.next = machine.top.next + 1;
@@ -99,7 +93,7 @@ fn ask_object<C: Memory>(
 ) -> Result<Outcome, AllocError>
     requires runs { is_running machine.old.front ≡ true }
     requires next { machine.old.top.next < 18446744073709551615 }
-    ensures { IfOk result (λ e. (program : AnyProgram) (side : AnySide) (n : ℕ) (s : Slot) → slice_get (slots_by (slice_get program.funcs machine.old.top.func)) i ≡ Some s → s.object ≡ true → side.asks ≡ true → shape ≡ shape_of side.known s → code_at (block_of program machine.old.top) machine.old.top.next ≡ Some (Code.Declare n i) → Ticks C.accesses side (held_of program machine.old) memory.now (came_with e) (held_of program machine.new) memory.now) }
+    ensures { IfOk result (λ e. DeclaresObject C.accesses machine.old memory.now i shape true (came_with e) machine.new memory.now) }
 {
     let at = At {
         func: machine.top.func,
@@ -122,7 +116,7 @@ fn declare_object<C: Memory>(
 ) -> Result<Option<Outcome>, AllocError>
     requires runs { is_running machine.old.front ≡ true }
     requires next { machine.old.top.next < 18446744073709551615 }
-    ensures { IfOk result (λ e. (program : AnyProgram) (side : AnySide) (n : ℕ) (s : Slot) → slice_get (slots_by (slice_get program.funcs machine.old.top.func)) i ≡ Some s → s.object ≡ true → side.asks ≡ asks → shape ≡ shape_of side.known s → code_at (block_of program machine.old.top) machine.old.top.next ≡ Some (Code.Declare n i) → Ticks C.accesses side (held_of program machine.old) memory.old (came_as e) (held_of program machine.new) memory.new) }
+    ensures { IfOk result (λ e. DeclaresObject C.accesses machine.old memory.old i shape asks (came_as e) machine.new memory.new) }
 {
     if asks {
         let event = ask_object(machine, alloc, memory, i, shape)?;
@@ -145,7 +139,7 @@ fn declare<'a, C: Memory>(
 ) -> Result<Option<Outcome>, AllocError>
     requires runs { is_running machine.old.front ≡ true }
     requires next { machine.old.top.next < 18446744073709551615 }
-    ensures { IfOk result (λ e. (side : AnySide) (n : ℕ) → slice_get (slots_by (slice_get program.now.funcs machine.old.top.func)) i ≡ Some (slot_as declared.entry) → side.known ≡ known_of program.now → side.asks ≡ asks → code_at (block_of program.now machine.old.top) machine.old.top.next ≡ Some (Code.Declare n i) → Ticks C.accesses side (held_of program.now machine.old) memory.old (came_as e) (held_of program.now machine.new) memory.new) }
+    ensures { IfOk result (λ e. HasSlot program.now machine.old i (slot_as declared.entry) → Declares C.accesses machine.old memory.old i program.now asks (came_as e) machine.new memory.new) }
 {
     if declared.object {
         let shape = shape_of(program, declared);
@@ -168,7 +162,7 @@ pub(crate) fn begin_declare<C: Memory>(
 ) -> Result<Option<Outcome>, AllocError>
     requires runs { is_running machine.old.front ≡ true }
     requires next { machine.old.top.next < 18446744073709551615 }
-    ensures { IfOk result (λ e. (side : AnySide) (n : ℕ) → side.known ≡ known_of program.now → side.asks ≡ asks → code_at (block_of program.now machine.old.top) machine.old.top.next ≡ Some (Code.Declare n i) → Ticks C.accesses side (held_of program.now machine.old) memory.old (came_as e) (held_of program.now machine.new) memory.new) }
+    ensures { IfOk result (λ e. Declares C.accesses machine.old memory.old i program.now asks (came_as e) machine.new memory.new) }
 {
     match slot_in(program, machine.top.func, i) {
         Some(declared) => {

@@ -7,7 +7,7 @@ ghost use Rattle.mdr_meaning.specs.Bodies.{known_of};
 ghost use Rattle.mdr_meaning.specs.Values.{wire_of};
 ghost use Rattle.mdr_events.specs.Outcomes.{wired};
 ghost use Rattle.mdr_events.specs.Values.{wires_of};
-ghost use Rattle.mdr_exec.specs.Evaluation.{after_value, fresh_of, loaded_by, place_of, value_of};
+ghost use Rattle.mdr_exec.specs.Evaluation.{after_value, fresh_of, loaded_by, loaded_of, place_of, value_of};
 
 use crate::members::member;
 use crate::operators::{
@@ -123,7 +123,7 @@ fn load_place<C: Memory>(
     p: &Lval,
 ) -> Result<Value, StopKind>
     requires { IsSound program.now }
-    ensures { wired result ≡ loaded_by C.accesses memory.now (wires_of slots.now) (lvalue_of p.now) (place_of C.accesses memory.now (known_of program.now) (wires_of slots.now) (lvalue_of p.now)) }
+    ensures { wired result ≡ loaded_of C.accesses memory.now (known_of program.now) (wires_of slots.now) (lvalue_of p.now) }
 {
     match p {
         Lval::Slot(i) => fresh(memory, slot_at(slots, *i)),

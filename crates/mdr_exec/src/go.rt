@@ -1,11 +1,10 @@
 // The machine runs.
 
-ghost use Rattle.std.specs.Prelude.{◌≡◌, ◌≤◌, ◌-◌, IfOk, OnOk};
+ghost use Rattle.std.specs.Prelude.{◌≡◌, ◌≤◌, IfOk, OnOk};
 ghost use Rattle.mdr_core.specs.Sound.{IsSound};
-ghost use Rattle.mdr_events.specs.Going.{RanTo};
 ghost use Rattle.mdr_events.specs.Ready.{IsReady};
-ghost use Rattle.mdr_exec.specs.Going.{SteppedTo, ran_as, stepped_as};
-ghost use Rattle.mdr_exec.specs.Halves.{side_in};
+ghost use Rattle.mdr_exec.specs.Executing.{RunsOwn, TurnsOwn};
+ghost use Rattle.mdr_exec.specs.Going.{ran_as, stepped_as};
 ghost use Rattle.mdr_exec.specs.Holding.{held_of};
 
 use crate::event::Outcome;
@@ -45,7 +44,7 @@ fn run_on<C: Memory>(
 ) -> Result<Ran, OutOfMemory>
     requires program { IsSound program.now }
     requires ready { IsReady (held_of program.now machine.old) }
-    ensures ran { IfOk result (λ r. SteppedTo C.accesses (side_in machine.old.side halves.now program.now) (held_of program.now machine.old) memory.old ticks (stepped_as r) (held_of program.now machine.new) memory.new) }
+    ensures ran { IfOk result (λ r. TurnsOwn C.accesses halves.now program.now machine.old memory.old ticks (stepped_as r) machine.new memory.new) }
     ensures side { OnOk result (machine.new.side ≡ machine.old.side) }
 {
     let side = machine.side;
@@ -77,7 +76,7 @@ impl Machine {
     ) -> Result<Event, OutOfMemory>
         requires program { IsSound program.now }
         requires ready { IsReady (held_of program.now self.old) }
-        ensures ran { IfOk result (λ e. RanTo C.accesses (side_in self.old.side halves.now program.now) (held_of program.now self.old) memory.old ticks e (held_of program.now self.new) memory.new (ticks - self.new.used)) }
+        ensures ran { IfOk result (λ e. RunsOwn C.accesses halves.now program.now self.old memory.old ticks e self.new memory.new) }
         ensures used { OnOk result (self.new.used ≤ ticks) }
         ensures side { OnOk result (self.new.side ≡ self.old.side) }
     {

@@ -6,7 +6,7 @@ ghost use Rattle.mdr_meaning.specs.Bodies.{known_of};
 ghost use Rattle.mdr_meaning.specs.Pointers.{global};
 ghost use Rattle.mdr_events.specs.Integers.{HasFirst, integer_wire};
 ghost use Rattle.mdr_events.specs.Values.{wires_of};
-ghost use Rattle.mdr_exec.specs.Evaluation.{loaded_by, place_of, value_of};
+ghost use Rattle.mdr_exec.specs.Evaluation.{loaded_of, value_of};
 
 use crate::integer::{
     as_integer, as_truth, compared, flipped, inverted, is_true, negated, operated, slot_integer,
@@ -41,7 +41,7 @@ fn global_integer<C: Memory>(program: &Program, memory: &C, g: u32) -> Option<In
 /// The integer that an lvalue names.
 #[tactic(auto, unfolding(crate::specs::Evaluation::place_of))]
 fn loaded<C: Memory>(program: &Program, memory: &C, slots: &[Value], p: &Lval) -> Option<Integer>
-    ensures { IfSome result (λ n. Ok (integer_wire n) ≡ loaded_by C.accesses memory.now (wires_of slots.now) (lvalue_of p.now) (place_of C.accesses memory.now (known_of program.now) (wires_of slots.now) (lvalue_of p.now))) }
+    ensures { IfSome result (λ n. Ok (integer_wire n) ≡ loaded_of C.accesses memory.now (known_of program.now) (wires_of slots.now) (lvalue_of p.now)) }
 {
     match p {
         Lval::Slot(i) => slot_integer(slots, *i),

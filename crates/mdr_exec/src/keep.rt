@@ -1,25 +1,22 @@
 // The value of a call goes where its statement says.
 
-ghost use Rattle.std.specs.Prelude.{◌≡◌, ℕ, Ok};
+ghost use Rattle.std.specs.Prelude.{◌≡◌, ℕ};
 ghost use Rattle.std.specs.Option.{option_map};
 ghost use Rattle.mdr_core.specs.declared.program.Program.{Program as AnyProgram};
 ghost use Rattle.mdr_core.specs.Code.{Goal};
 ghost use Rattle.mdr_core.specs.Folds.{code_of, goal_of, lvalue_of};
 ghost use Rattle.mdr_core.specs.Sound.{IsSound};
-ghost use Rattle.mdr_meaning.specs.declared.wire.Wire.{Wire as AnyWire};
-ghost use Rattle.mdr_meaning.specs.Bodies.{known_of};
-ghost use Rattle.mdr_meaning.specs.Sides.{Side as AnySide, in_here};
+ghost use Rattle.mdr_meaning.specs.Sides.{Side as AnySide};
 ghost use Rattle.mdr_meaning.specs.Values.{wire_of};
-ghost use Rattle.mdr_events.specs.Held.{Comes};
 ghost use Rattle.mdr_events.specs.Outcomes.{wired};
 ghost use Rattle.mdr_events.specs.Running.{number_of};
-ghost use Rattle.mdr_events.specs.Steps.{Goes, Steps};
+ghost use Rattle.mdr_events.specs.Steps.{Goes};
 ghost use Rattle.mdr_exec.specs.Beginning.{came_of};
 ghost use Rattle.mdr_exec.specs.Events.{came_as};
+ghost use Rattle.mdr_exec.specs.Executing.{Keeps, KeepsAs, Knows, StepsTo};
 ghost use Rattle.mdr_exec.specs.Found.{code_in};
-ghost use Rattle.mdr_exec.specs.Holding.{code_of_frame, front_in, goal_at, goal_in, held_of, number_at};
-ghost use Rattle.mdr_exec.specs.Leaving.{here_in};
-ghost use Rattle.mdr_exec.specs.Receiving.{goal_as, received_as, received_back};
+ghost use Rattle.mdr_exec.specs.Holding.{code_of_frame, goal_at, goal_in, number_at};
+ghost use Rattle.mdr_exec.specs.Receiving.{KeepsInto, goal_as, received_back};
 ghost use Rattle.mdr_exec.specs.declared.frame.Front.TheVariants as front;
 
 use crate::assign::put;
@@ -135,7 +132,7 @@ fn keep_into<C: Memory>(
     value: Value,
 ) -> Option<StopKind>
     requires { IsSound program.now }
-    ensures { (side : AnySide) (n : ℕ) → side.known ≡ known_of program.now → front_in program.now machine.old.top machine.old.front ≡ Comes n (Goal.Into (lvalue_of p.now)) (wire_of value) → Steps C.accesses side (held_of program.now machine.old) memory.old (came_of result (in_here (here_in program.now machine.old) n)) (held_of program.now machine.new) memory.new }
+    ensures { Keeps C.accesses program.now machine.old memory.old (Goal.Into (lvalue_of p.now)) (wire_of value) (came_of result) machine.new memory.new }
 {
     let kept = received(program, named_type(program, machine.top.func, p), value);
     match kept {
@@ -153,7 +150,7 @@ fn put_kept<C: Memory>(
     value: Value,
 ) -> Option<StopKind>
     requires { IsSound program.now }
-    ensures { (side : AnySide) (n : ℕ) (v : AnyWire) → side.known ≡ known_of program.now → received_as program.now machine.old.top (lvalue_of p.now) v ≡ Ok (wire_of value) → front_in program.now machine.old.top machine.old.front ≡ Comes n (Goal.Into (lvalue_of p.now)) v → Steps C.accesses side (held_of program.now machine.old) memory.old (came_of result (in_here (here_in program.now machine.old) n)) (held_of program.now machine.new) memory.new }
+    ensures { KeepsInto C.accesses program.now machine.old memory.old (lvalue_of p.now) (wire_of value) (came_of result) machine.new memory.new }
 {
     let done = put(program, memory, &mut machine.top.slots, p, value);
     match done {
@@ -182,7 +179,7 @@ fn keep_back<C: Memory>(
     memory: &C,
     value: Value,
 ) -> Option<StopKind>
-    ensures { (side : AnySide) (n : ℕ) → side.known ≡ known_of program.now → front_in program.now machine.old.top machine.old.front ≡ Comes n Goal.Back (wire_of value) → Steps C.accesses side (held_of program.now machine.old) memory.now (came_of result (in_here (here_in program.now machine.old) n)) (held_of program.now machine.new) memory.now }
+    ensures { Keeps C.accesses program.now machine.old memory.now Goal.Back (wire_of value) (came_of result) machine.new memory.now }
 {
     match received_back(program, machine.top.func, value) {
         Ok(value) => {
@@ -195,7 +192,7 @@ fn keep_back<C: Memory>(
 
 /// A value is not kept.
 fn keep_nothing<C: Memory>(machine: &mut Machine, memory: &C, value: Value)
-    ensures { (program : AnyProgram) (side : AnySide) (n : ℕ) → front_in program machine.old.top machine.old.front ≡ Comes n Goal.Nowhere (wire_of value) → Steps C.accesses side (held_of program machine.old) memory.now Goes (held_of program machine.new) memory.now }
+    ensures { (program : AnyProgram) (side : AnySide) (n : ℕ) → KeepsAs C.accesses side program machine.old memory.now n Goal.Nowhere (wire_of value) Goes machine.new memory.now }
 {
     machine.front = Front::Runs;
 }
@@ -208,7 +205,7 @@ fn keep_as<C: Memory>(
     value: Value,
 ) -> Option<StopKind>
     requires { IsSound program.now }
-    ensures { (side : AnySide) (n : ℕ) → side.known ≡ known_of program.now → front_in program.now machine.old.top machine.old.front ≡ Comes n (goal_as goal.entry) (wire_of value) → Steps C.accesses side (held_of program.now machine.old) memory.old (came_of result (in_here (here_in program.now machine.old) n)) (held_of program.now machine.new) memory.new }
+    ensures { Keeps C.accesses program.now machine.old memory.old (goal_as goal.entry) (wire_of value) (came_of result) machine.new memory.new }
 {
     match goal {
         Kept::Nowhere => {
@@ -229,7 +226,7 @@ pub(crate) fn keep<C: Memory>(
 ) -> Option<Outcome>
     requires program { IsSound program.now }
     requires comes { machine.old.front ≡ front.Comes value }
-    ensures { (side : AnySide) → side.known ≡ known_of program.now → Steps C.accesses side (held_of program.now machine.old) memory.old (came_as result) (held_of program.now machine.new) memory.new }
+    ensures { (side : AnySide) → Knows side program.now → StepsTo C.accesses side program.now machine.old memory.old (came_as result) machine.new memory.new }
 {
     let at = At {
         func: machine.top.func,

@@ -11,7 +11,7 @@ ghost use Rattle.mdr_exec.specs.declared.places.Position.{Position as AnyPositio
 ghost use Rattle.mdr_exec.specs.Behind.{is_stepless};
 ghost use Rattle.mdr_exec.specs.Found.{codes_in};
 ghost use Rattle.mdr_exec.specs.Holding.{block_of, flow_as, front_in, held_of, is_running};
-ghost use Rattle.mdr_exec.specs.Leaving.{LeavesNone, ending_by, goes_behind, goes_round, is_loop, leaves_list, passed_on, step_left, turn_left};
+ghost use Rattle.mdr_exec.specs.Leaving.{LeavesNone, ending_by, goes_behind, goes_round, is_loop, leaves_list, passed_on, plain_left, step_left, turn_left};
 ghost use Rattle.mdr_exec.specs.Places.{code_before};
 
 use crate::frame::{Flow, Front, Machine};
@@ -215,7 +215,7 @@ fn go_round(
 
 /// Leaves a block that is no loop's.
 fn leave_plain(machine: &mut Machine, flow: Flow, p: Position) -> Result<(), AllocError>
-    ensures { OnOk result ((program : AnyProgram) → held_of program machine.new ≡ goes_behind program machine.old (flow_as flow) p.next (passed_on (flow_as flow) (wires_of p.born) (wires_of machine.old.top.born))) }
+    ensures { OnOk result ((program : AnyProgram) → held_of program machine.new ≡ plain_left program machine.old (flow_as flow) p) }
 {
     let Position {
         next,

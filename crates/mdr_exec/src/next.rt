@@ -4,11 +4,11 @@ ghost use Rattle.std.specs.Prelude.{◌≡◌, ◌<◌, true, IfSome, OnOk, None
 ghost use Rattle.std.specs.Option.{option_map};
 ghost use Rattle.mdr_core.specs.declared.program.Program.{Program as AnyProgram};
 ghost use Rattle.mdr_meaning.specs.Sides.{Side as AnySide};
-ghost use Rattle.mdr_events.specs.Steps.{IsSame};
 ghost use Rattle.mdr_exec.specs.declared.frame.Front.TheVariants as front;
+ghost use Rattle.mdr_exec.specs.Executing.{HoldsSame, next_in};
 ghost use Rattle.mdr_exec.specs.Found.{code_in};
-ghost use Rattle.mdr_exec.specs.Holding.{block_of, held_of, is_running};
-ghost use Rattle.mdr_exec.specs.Places.{code_at};
+ghost use Rattle.mdr_exec.specs.Holding.{is_running};
+ghost use Rattle.mdr_exec.specs.Went.{StillHolds};
 
 use crate::frame::{Flow, Front, Machine};
 use crate::places::{Standing, block_at, body_of, inside, listed_at, standing_at, statements_of};
@@ -17,7 +17,7 @@ use std::alloc::AllocError;
 
 /// The statement that comes next, or the loop of a `for`.
 pub(crate) fn stands_next<'a>(machine: &Machine, program: &'a Program) -> Option<Standing<'a>>
-    ensures code { option_map code_in result ≡ code_at (block_of program.now machine.now.top) machine.now.top.next }
+    ensures code { option_map code_in result ≡ next_in program.now machine.now }
     ensures inside { IfSome result (λ s. machine.now.top.next < 18446744073709551615) }
 {
     let body = statements_of(program, machine.top.func);
@@ -29,7 +29,7 @@ pub(crate) fn stands_next<'a>(machine: &Machine, program: &'a Program) -> Option
 
 /// The same, on any path.
 fn stands_behind<'a>(machine: &Machine, program: &'a Program) -> Option<Standing<'a>>
-    ensures code { option_map code_in result ≡ code_at (block_of program.now machine.now.top) machine.now.top.next }
+    ensures code { option_map code_in result ≡ next_in program.now machine.now }
     ensures inside { IfSome result (λ s. machine.now.top.next < 18446744073709551615) }
 {
     let block = block_at(
@@ -42,7 +42,7 @@ fn stands_behind<'a>(machine: &Machine, program: &'a Program) -> Option<Standing
 /// No statement comes next: the list of statements is left.
 pub(crate) fn run_out(machine: &mut Machine)
     requires runs { is_running machine.old.front ≡ true }
-    ensures { (program : AnyProgram) (side : AnySide) → code_at (block_of program machine.old.top) machine.old.top.next ≡ None → IsSame side (held_of program machine.old) (held_of program machine.new) }
+    ensures { (program : AnyProgram) (side : AnySide) → next_in program machine.old ≡ None → HoldsSame side program machine.old machine.new }
 {
     machine.front = Front::Unwinds(Flow::Ends);
 }
@@ -54,7 +54,7 @@ pub(crate) fn take_object(
     pointer: Value,
 ) -> Result<(), AllocError>
     requires born { machine.old.front ≡ front.Born slot pointer }
-    ensures { OnOk result ((program : AnyProgram) (side : AnySide) → IsSame side (held_of program machine.old) (held_of program machine.new)) }
+    ensures { OnOk result (StillHolds machine.old machine.new) }
 {
     machine.top.slots.set(slot as usize, pointer);
     machine.top.born.push(pointer)?;

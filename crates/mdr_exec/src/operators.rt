@@ -8,7 +8,7 @@ ghost use Rattle.mdr_meaning.specs.declared.wire.Wire.{Wire};
 ghost use Rattle.mdr_meaning.specs.declared.wire.Wire.TheVariants as wire;
 ghost use Rattle.mdr_meaning.specs.Values.{at_kind, integer, is_true, operand, right_operand, truth, wire_of};
 ghost use Rattle.mdr_events.specs.Outcomes.{wired};
-ghost use Rattle.mdr_exec.specs.Evaluation.{after_value, and_of, or_of};
+ghost use Rattle.mdr_exec.specs.Evaluation.{after_value, and_of, or_of, truth_of};
 
 use crate::integer::{complement, computed, opposite};
 use crate::values::{at_kind, integer, is_true, truth};
@@ -81,7 +81,7 @@ pub(crate) fn combined(
 
 /// 1 or 0, as an operand is.
 pub(crate) fn as_truth(operand: Result<Value, StopKind>) -> Result<Value, StopKind>
-    ensures { wired result ≡ after_value (wired operand) (λ w. Ok (truth (is_true w))) }
+    ensures { wired result ≡ truth_of (wired operand) }
 {
     match operand {
         Ok(value) => Ok(truth(is_true(value))),
@@ -92,7 +92,7 @@ pub(crate) fn as_truth(operand: Result<Value, StopKind>) -> Result<Value, StopKi
 /// `&&` by its left operand, where that decides or stops. Where there is none the right operand is evaluated, and
 /// its truth counts.
 pub(crate) fn both_by(left: Result<Value, StopKind>) -> Option<Result<Value, StopKind>>
-    ensures { MatchOption result ((right : Result Wire StopKind) → and_of (wired left) right ≡ after_value right (λ w. Ok (truth (is_true w)))) (λ r. (right : Result Wire StopKind) → and_of (wired left) right ≡ wired r) }
+    ensures { MatchOption result ((right : Result Wire StopKind) → and_of (wired left) right ≡ truth_of right) (λ r. (right : Result Wire StopKind) → and_of (wired left) right ≡ wired r) }
 {
     match left {
         Ok(value) => {
@@ -109,7 +109,7 @@ pub(crate) fn both_by(left: Result<Value, StopKind>) -> Option<Result<Value, Sto
 /// `||` by its left operand, where that decides or stops. Where there is none the right operand is evaluated, and
 /// its truth counts.
 pub(crate) fn either_by(left: Result<Value, StopKind>) -> Option<Result<Value, StopKind>>
-    ensures { MatchOption result ((right : Result Wire StopKind) → or_of (wired left) right ≡ after_value right (λ w. Ok (truth (is_true w)))) (λ r. (right : Result Wire StopKind) → or_of (wired left) right ≡ wired r) }
+    ensures { MatchOption result ((right : Result Wire StopKind) → or_of (wired left) right ≡ truth_of right) (λ r. (right : Result Wire StopKind) → or_of (wired left) right ≡ wired r) }
 {
     match left {
         Ok(value) => {

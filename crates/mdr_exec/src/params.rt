@@ -4,21 +4,20 @@ ghost use Rattle.std.specs.Prelude.{◌≡◌, ◌++◌, ◌∷◌, [], IfOk, On
 ghost use Rattle.mdr_core.specs.declared.program.Program.{Program as AnyProgram};
 ghost use Rattle.mdr_core.specs.Typing.{slot_of_param};
 ghost use Rattle.mdr_meaning.specs.Bodies.{known_of};
-ghost use Rattle.mdr_meaning.specs.Expressions.{slot_of};
-ghost use Rattle.mdr_meaning.specs.Lives.{asked_for, object_params, param_shapes, with_object};
+ghost use Rattle.mdr_meaning.specs.Lives.{asked_for, object_params, param_shapes};
 ghost use Rattle.mdr_meaning.specs.Sides.{Side as AnySide};
 ghost use Rattle.mdr_meaning.specs.Values.{wire_of};
 ghost use Rattle.mdr_events.specs.Events.{asked_as};
 ghost use Rattle.mdr_events.specs.Outcomes.{when_made};
 ghost use Rattle.mdr_events.specs.Steps.{Goes, Steps};
 ghost use Rattle.mdr_events.specs.Values.{wires_of};
-ghost use Rattle.mdr_exec.specs.Effects.{did, fills_of, stored};
-ghost use Rattle.mdr_exec.specs.Entering.{filling, params_by};
+ghost use Rattle.mdr_exec.specs.Effects.{did, fill_of, fills_of};
+ghost use Rattle.mdr_exec.specs.Entering.{BearsParams, filling, params_by, shapes_in};
 ghost use Rattle.mdr_exec.specs.Events.{came_as, came_with};
+ghost use Rattle.mdr_exec.specs.Executing.{Knows, StepsTo};
 ghost use Rattle.mdr_exec.specs.Holding.{held_of};
-ghost use Rattle.mdr_exec.specs.Leaving.{here_in};
-ghost use Rattle.mdr_exec.specs.Storing.{with_slots};
 ghost use Rattle.mdr_exec.specs.declared.frame.Front.TheVariants as front;
+ghost use Rattle.mdr_exec.specs.Storing.{locals_of};
 
 use crate::assign::stored;
 use crate::event::Outcome;
@@ -123,7 +122,7 @@ fn ask_params<C: Memory>(
     shapes: Items<Shape64>,
 ) -> Result<Outcome, AllocError>
     requires { machine.old.front ≡ front.Enters }
-    ensures { IfOk result (λ e. (program : AnyProgram) (side : AnySide) → side.asks ≡ true → shapes ≡ param_shapes side.known (here_in program machine.old).slots → (shapes ≡ [] → ⊥) → Steps C.accesses side (held_of program machine.old) memory.now (came_with e) (held_of program machine.new) memory.now) }
+    ensures { IfOk result (λ e. BearsParams C.accesses machine.old memory.now shapes true (came_with e) machine.new memory.now) }
 {
     let room = room_for(alloc, shapes.len())?;
     let at = At {
@@ -142,7 +141,7 @@ fn bear_params<C: Memory>(
     shapes: &[Shape64],
 ) -> Result<(), AllocError>
     requires { machine.old.front ≡ front.Enters }
-    ensures { OnOk result ((program : AnyProgram) (side : AnySide) → side.asks ≡ false → shapes.now ≡ param_shapes side.known (here_in program machine.old).slots → (shapes.now ≡ [] → ⊥) → Steps C.accesses side (held_of program machine.old) memory.old Goes (held_of program machine.new) memory.new) }
+    ensures { OnOk result (BearsParams C.accesses machine.old memory.old shapes.now false Goes machine.new memory.new) }
 {
     let pointers = memory.birth(alloc, shapes)?;
     machine.front = Front::Fills(pointers);
@@ -152,7 +151,7 @@ fn bear_params<C: Memory>(
 /// No parameter is an object.
 fn bear_none<C: Memory>(machine: &mut Machine, alloc: Global, memory: &C)
     requires { machine.old.front ≡ front.Enters }
-    ensures { (program : AnyProgram) (side : AnySide) → [] ≡ param_shapes side.known (here_in program machine.old).slots → Steps C.accesses side (held_of program machine.old) memory.now Goes (held_of program machine.new) memory.now }
+    ensures { (program : AnyProgram) (side : AnySide) → [] ≡ shapes_in side program machine.old → StepsTo C.accesses side program machine.old memory.now Goes machine.new memory.now }
 {
     machine.front = Front::Fills(Items::new(alloc));
 }
@@ -166,7 +165,7 @@ pub(crate) fn enter_function<C: Memory>(
     asks: bool,
 ) -> Result<Option<Outcome>, AllocError>
     requires { machine.old.front ≡ front.Enters }
-    ensures { IfOk result (λ e. (side : AnySide) → side.known ≡ known_of program.now → side.asks ≡ asks → Steps C.accesses side (held_of program.now machine.old) memory.old (came_as e) (held_of program.now machine.new) memory.new) }
+    ensures { IfOk result (λ e. (side : AnySide) → Knows side program.now → side.asks ≡ asks → StepsTo C.accesses side program.now machine.old memory.old (came_as e) machine.new memory.new) }
 {
     let shapes = shapes_of(alloc, program, params_in(program, machine.top.func))?;
     if shapes.is_empty() {
@@ -192,7 +191,7 @@ fn fill_one<C: Memory>(
     i: usize,
     pointer: Value,
 ) -> Result<Result<(), StopKind>, AllocError>
-    ensures { IfOk result (λ r. stored C.accesses (wire_of pointer) (slot_of (wires_of slots.old) i) (with_object i (wire_of pointer) (with_slots slots.old (wires_of born.old))) memory.old ≡ did (when_made r (with_slots slots.new (wires_of born.new))) memory.new) }
+    ensures { IfOk result (λ r. fill_of C.accesses i (wire_of pointer) (locals_of slots.old born.old) memory.old ≡ did (when_made r (locals_of slots.new born.new)) memory.new) }
 {
     let value = slot_value(slots.as_slice(), i);
     let done = stored(memory, Ok(pointer), value);
@@ -223,7 +222,7 @@ fn fill_all<C: Memory>(
     params: &[usize],
     pointers: &[Value],
 ) -> Result<Result<(), StopKind>, AllocError>
-    ensures { IfOk result (λ r. fills_of C.accesses params.now (wires_of pointers.now) (with_slots slots.old (wires_of born.old)) memory.old ≡ did (when_made r (with_slots slots.new (wires_of born.new))) memory.new) }
+    ensures { IfOk result (λ r. fills_of C.accesses params.now (wires_of pointers.now) (locals_of slots.old born.old) memory.old ≡ did (when_made r (locals_of slots.new born.new)) memory.new) }
 {
     for i in 0..params.len() {
         match pointer_at(pointers, i) {

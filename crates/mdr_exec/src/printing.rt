@@ -8,7 +8,7 @@ ghost use Rattle.mdr_meaning.specs.Asking.{counted};
 ghost use Rattle.mdr_meaning.specs.Printed.{print_text, printed, shown, told};
 ghost use Rattle.mdr_meaning.specs.Values.{integer, natural_of, rest_of, saturated_u64, wire_of};
 ghost use Rattle.mdr_events.specs.Values.{wires_of};
-ghost use Rattle.mdr_exec.specs.Printing.{reading_as};
+ghost use Rattle.mdr_exec.specs.Printing.{printed_as};
 
 use crate::values::{first, integer};
 use mdr_core::{Items, Value};
@@ -111,7 +111,7 @@ struct Read<'a> {
 }
 
 fn read_plain<'a>(out: &mut Vec<u8>, byte: u8, args: &'a [Value]) -> Result<Read<'a>, AllocError>
-    ensures { IfOk result (λ r. (bs : List ℕ) → out.new.items ++ printed (reading_as r.reading) bs (wires_of r.args.now) ≡ out.old.items ++ printed Plain (byte ∷ bs) (wires_of args.now)) }
+    ensures { IfOk result (λ r. (bs : List ℕ) → out.new.items ++ printed_as r.reading bs r.args.now ≡ out.old.items ++ printed Plain (byte ∷ bs) (wires_of args.now)) }
 {
     if byte == 37 {
         Ok(Read {
@@ -133,7 +133,7 @@ fn read_letter<'a>(
     letter: u8,
     args: &'a [Value],
 ) -> Result<Read<'a>, AllocError>
-    ensures { IfOk result (λ r. (bs : List ℕ) → out.new.items ++ printed (reading_as r.reading) bs (wires_of r.args.now) ≡ out.old.items ++ told (printed Plain bs) letter (wires_of args.now)) }
+    ensures { IfOk result (λ r. (bs : List ℕ) → out.new.items ++ printed_as r.reading bs r.args.now ≡ out.old.items ++ told (printed Plain bs) letter (wires_of args.now)) }
 {
     put_shown(alloc, out, letter, integer(first(args)))?;
     Ok(Read {
@@ -148,7 +148,7 @@ fn read_percent<'a>(
     byte: u8,
     args: &'a [Value],
 ) -> Result<Read<'a>, AllocError>
-    ensures { IfOk result (λ r. (bs : List ℕ) → out.new.items ++ printed (reading_as r.reading) bs (wires_of r.args.now) ≡ out.old.items ++ printed Percent (byte ∷ bs) (wires_of args.now)) }
+    ensures { IfOk result (λ r. (bs : List ℕ) → out.new.items ++ printed_as r.reading bs r.args.now ≡ out.old.items ++ printed Percent (byte ∷ bs) (wires_of args.now)) }
 {
     if byte == 37 {
         out.push(byte)?;
@@ -174,7 +174,7 @@ fn read_byte<'a>(
     byte: u8,
     args: &'a [Value],
 ) -> Result<Read<'a>, AllocError>
-    ensures { IfOk result (λ r. (bs : List ℕ) → out.new.items ++ printed (reading_as r.reading) bs (wires_of r.args.now) ≡ out.old.items ++ printed (reading_as reading) (byte ∷ bs) (wires_of args.now)) }
+    ensures { IfOk result (λ r. (bs : List ℕ) → out.new.items ++ printed_as r.reading bs r.args.now ≡ out.old.items ++ printed_as reading (byte ∷ bs) args.now) }
 {
     match reading {
         Reading::Plain => {

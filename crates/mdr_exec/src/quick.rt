@@ -1,18 +1,14 @@
 // Statements of integers, one after another.
 
-ghost use Rattle.std.specs.Prelude.{◌≡◌, ◌<◌, ℕ, List, Ok, Some, true, false};
+ghost use Rattle.std.specs.Prelude.{◌≡◌, ◌<◌, Ok, true, false};
 ghost use Rattle.mdr_core.specs.Code.{Code};
 ghost use Rattle.mdr_core.specs.Folds.{codes_of, lvalue_of, term_of};
-ghost use Rattle.mdr_meaning.specs.declared.wire.Wire.{Wire as AnyWire};
-ghost use Rattle.mdr_meaning.specs.Bodies.{known_of};
-ghost use Rattle.mdr_meaning.specs.Sides.{Side as AnySide};
 ghost use Rattle.mdr_events.specs.Integers.{integer_wire};
-ghost use Rattle.mdr_events.specs.Steps.{Goes, Ticks};
-ghost use Rattle.mdr_exec.specs.Effects.{did, put_of};
-ghost use Rattle.mdr_exec.specs.Holding.{block_of, held_of, is_running};
-ghost use Rattle.mdr_exec.specs.Places.{code_at};
+ghost use Rattle.mdr_events.specs.Steps.{Goes};
+ghost use Rattle.mdr_exec.specs.Executing.{Begins};
+ghost use Rattle.mdr_exec.specs.Holding.{block_of, is_running};
 ghost use Rattle.mdr_exec.specs.Quick.{IsInList, RunsOn, TakesTick};
-ghost use Rattle.mdr_exec.specs.Storing.{with_slots};
+ghost use Rattle.mdr_exec.specs.Storing.{Puts};
 
 use crate::frame::Machine;
 use crate::integers::{has_first, integer_of};
@@ -28,7 +24,7 @@ fn put_integer<C: Memory>(
     p: &Lval,
     integer: Integer,
 ) -> bool
-    ensures done { result ≡ true → (born : List AnyWire) → put_of C.accesses (known_of program.now) (lvalue_of p.now) (integer_wire integer) (with_slots slots.old born) memory.old ≡ did (Ok (with_slots slots.new born)) memory.new }
+    ensures done { result ≡ true → Puts C.accesses program.now (lvalue_of p.now) (integer_wire integer) slots.old memory.old (λ l. Ok l) slots.new memory.new }
     ensures slots { result ≡ false → slots.new ≡ slots.old }
     ensures memory { result ≡ false → memory.new ≡ memory.old }
 {
@@ -58,7 +54,7 @@ fn assign<C: Memory>(
 ) -> bool
     requires runs { is_running machine.old.front ≡ true }
     requires next { machine.old.top.next < 18446744073709551615 }
-    ensures done { result ≡ true → (side : AnySide) (n : ℕ) → side.known ≡ known_of program.now → code_at (block_of program.now machine.old.top) machine.old.top.next ≡ Some (Code.Assign n (lvalue_of p.now) (term_of e.now)) → Ticks C.accesses side (held_of program.now machine.old) memory.old Goes (held_of program.now machine.new) memory.new }
+    ensures done { result ≡ true → Begins C.accesses program.now machine.old memory.old (λ n. Code.Assign n (lvalue_of p.now) (term_of e.now)) (λ p. Goes) machine.new memory.new }
     ensures machine { result ≡ false → machine.new ≡ machine.old }
     ensures memory { result ≡ false → memory.new ≡ memory.old }
     ensures list { IsInList program.now machine.old machine.new }

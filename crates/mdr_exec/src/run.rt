@@ -1,9 +1,8 @@
 // A machine is made, started over what it holds, and goes on with answers.
 
-ghost use Rattle.std.specs.Prelude.{◌<◌, ◌+◌, Some, OnOk, IfOk, slice_get, ◌≡◌, ◌≤◌, ℕ, true, length};
+ghost use Rattle.std.specs.Prelude.{◌<◌, Some, OnOk, IfOk, slice_get, ◌≡◌, ℕ, true, length};
 ghost use Rattle.mdr_core.specs.declared.program.Program.{Program as AnyProgram};
-ghost use Rattle.mdr_meaning.specs.Bodies.{body_of, started};
-ghost use Rattle.mdr_meaning.specs.Cut.{cut};
+ghost use Rattle.mdr_meaning.specs.Bodies.{body_of};
 ghost use Rattle.mdr_meaning.specs.Sides.{Body, Side as AnySide, framed};
 ghost use Rattle.mdr_meaning.specs.Tree.{Tree};
 ghost use Rattle.mdr_meaning.specs.Values.{wire_of};
@@ -13,6 +12,7 @@ ghost use Rattle.mdr_events.specs.Running.{answered};
 ghost use Rattle.mdr_events.specs.Steps.{child};
 ghost use Rattle.mdr_events.specs.Values.{wires_of};
 ghost use Rattle.mdr_exec.specs.declared.frame.Frame.{Frame as AnyFrame};
+ghost use Rattle.mdr_exec.specs.Entering.{StartsOver};
 ghost use Rattle.mdr_exec.specs.Holding.{FitQuestion, front_in, held_of, here_of, slots_by, waits};
 
 use crate::frame::{Flow, Frame, Front, Machine, Side, Suspended, Until};
@@ -105,7 +105,7 @@ impl Machine {
     ) -> Result<(), AllocError>
         requires body { (body : Body) × (body_of program.now func ≡ Some body) }
         requires depth { depth < 4294967295 }
-        ensures begins { OnOk result ((side : AnySide) → side.own func ≡ body_of program.now func → (f r : ℕ) → r ≤ f → tree side f (held_of program.now self.new) r ≡ cut r (started side (f + 1) func (wires_of args.now) depth (tree side f (held_of program.now self.old) r))) }
+        ensures begins { OnOk result (StartsOver program.now self.old func (wires_of args.now) depth self.new) }
         ensures ready { OnOk result (IsReady (held_of program.now self.new)) }
     {
         let slots = slots_of(alloc, program, func, args)?;

@@ -5,8 +5,7 @@ ghost use Rattle.std.specs.Option.{option_map};
 ghost use Rattle.mdr_core.specs.Typing.{slot_of_local, slot_of_param, slots_of};
 ghost use Rattle.mdr_meaning.specs.Bodies.{known_of};
 ghost use Rattle.mdr_meaning.specs.Lives.{shape_of};
-ghost use Rattle.mdr_exec.specs.Declaring.{slot_as};
-ghost use Rattle.mdr_exec.specs.Holding.{slots_by};
+ghost use Rattle.mdr_exec.specs.Declaring.{slot_as, slot_in};
 
 use crate::pointers::type_number;
 use mdr_core::{Func, Local, Param, Program, Ty};
@@ -76,7 +75,7 @@ fn slot_numbered<'a>(func: &'a Func, i: usize) -> Option<Declared<'a>>
 
 /// The parameter or local of a program's function that has this slot.
 pub(crate) fn slot_in<'a>(program: &'a Program, func: u32, i: u32) -> Option<Declared<'a>>
-    ensures { option_map slot_as result ≡ slice_get (slots_by (slice_get program.now.funcs func)) i }
+    ensures { option_map slot_as result ≡ slot_in program.now func i }
 {
     match program.funcs.as_slice().get(func as usize) {
         Some(func) => slot_numbered(func, i as usize),

@@ -6,7 +6,7 @@ ghost use Rattle.mdr_core.specs.Typing.{Slot, slot_of_local, slot_of_param, slot
 ghost use Rattle.mdr_meaning.specs.Sides.{framed};
 ghost use Rattle.mdr_meaning.specs.Values.{wire_of};
 ghost use Rattle.mdr_events.specs.Values.{wires_of};
-ghost use Rattle.mdr_exec.specs.Starting.{IsFilled, before_declared, slot_start};
+ghost use Rattle.mdr_exec.specs.Starting.{AreFilled, before_declared, slot_start};
 
 use mdr_core::{Func, Items, Local, LockState, Param, Ty, Value};
 use std::alloc::{AllocError, Global};
@@ -49,7 +49,7 @@ fn add_slot(
 }
 
 fn add_params(slots: &mut Items<Value>, args: &[Value], params: &[Param]) -> Result<(), AllocError>
-    ensures { OnOk result ((rest whole : List Slot) → IsFilled (wires_of slots.old) (map slot_of_param params.now ++ rest) whole (wires_of args.now) → IsFilled (wires_of slots.new) rest whole (wires_of args.now)) }
+    ensures { OnOk result ((rest whole : List Slot) → AreFilled slots.old (map slot_of_param params.now ++ rest) whole args.now → AreFilled slots.new rest whole args.now) }
 {
     for param in params {
         add_slot(slots, args, &param.ty, param.object)?;
@@ -58,7 +58,7 @@ fn add_params(slots: &mut Items<Value>, args: &[Value], params: &[Param]) -> Res
 }
 
 fn add_locals(slots: &mut Items<Value>, args: &[Value], locals: &[Local]) -> Result<(), AllocError>
-    ensures { OnOk result ((whole : List Slot) → IsFilled (wires_of slots.old) (map slot_of_local locals.now) whole (wires_of args.now) → IsFilled (wires_of slots.new) [] whole (wires_of args.now)) }
+    ensures { OnOk result ((whole : List Slot) → AreFilled slots.old (map slot_of_local locals.now) whole args.now → AreFilled slots.new [] whole args.now) }
 {
     for local in locals {
         add_slot(slots, args, &local.ty, local.object)?;

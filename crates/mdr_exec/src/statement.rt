@@ -1,20 +1,17 @@
 // A statement that comes next is done in its tick.
 
-ghost use Rattle.std.specs.Prelude.{◌≡◌, ◌<◌, ℕ, true, false, IfOk, Some};
+ghost use Rattle.std.specs.Prelude.{◌≡◌, ◌<◌, true, false, IfOk};
 ghost use Rattle.std.specs.Option.{option_map};
 ghost use Rattle.mdr_core.specs.Code.{Code};
 ghost use Rattle.mdr_core.specs.Folds.{code_of, term_of};
 ghost use Rattle.mdr_core.specs.Sound.{IsSound};
-ghost use Rattle.mdr_meaning.specs.Bodies.{known_of};
-ghost use Rattle.mdr_meaning.specs.Sides.{Side as AnySide, in_here};
+ghost use Rattle.mdr_meaning.specs.Sides.{Side as AnySide};
 ghost use Rattle.mdr_events.specs.Running.{is_block};
-ghost use Rattle.mdr_events.specs.Steps.{Ticks};
 ghost use Rattle.mdr_exec.specs.Events.{came_as};
+ghost use Rattle.mdr_exec.specs.Executing.{BeginsAt, Knows, StandsAt, TicksTo};
 ghost use Rattle.mdr_exec.specs.Found.{turn_code};
 ghost use Rattle.mdr_exec.specs.Halves.{side_in};
-ghost use Rattle.mdr_exec.specs.Holding.{block_of, held_of, is_running};
-ghost use Rattle.mdr_exec.specs.Leaving.{here_in};
-ghost use Rattle.mdr_exec.specs.Places.{code_at};
+ghost use Rattle.mdr_exec.specs.Holding.{is_running};
 
 use crate::assign::begin_assign;
 use crate::begin::{begin_if, begin_jump, begin_loop, begin_return, begin_return_value};
@@ -40,7 +37,7 @@ fn do_return<C: Memory>(
     requires program { IsSound program.now }
     requires runs { is_running machine.old.front ≡ true }
     requires next { machine.old.top.next < 18446744073709551615 }
-    ensures { (side : AnySide) (n : ℕ) → at ≡ in_here (here_in program.now machine.old) n → side.known ≡ known_of program.now → code_at (block_of program.now machine.old.top) machine.old.top.next ≡ Some (Code.Return n (option_map term_of e.now)) → Ticks C.accesses side (held_of program.now machine.old) memory.now (came_as result) (held_of program.now machine.new) memory.now }
+    ensures { BeginsAt C.accesses program.now machine.old memory.now at (λ n. Code.Return n (option_map term_of e.now)) (came_as result) machine.new memory.now }
 {
     match e {
         Some(e) => stopped(begin_return_value(machine, program, memory, e), at),
@@ -63,9 +60,9 @@ pub(crate) fn do_statement<C: Memory>(
     requires program { IsSound program.now }
     requires runs { is_running machine.old.front ≡ true }
     requires next { machine.old.top.next < 18446744073709551615 }
-    requires stands { code_at (block_of program.now machine.old.top) machine.old.top.next ≡ Some (code_of statement.now) }
+    requires stands { StandsAt program.now machine.old (code_of statement.now) }
     requires ticks { is_block (code_of statement.now) ≡ false }
-    ensures { IfOk result (λ e. Ticks C.accesses (side_in machine.old.side halves.now program.now) (held_of program.now machine.old) memory.old (came_as e) (held_of program.now machine.new) memory.new) }
+    ensures { IfOk result (λ e. TicksTo C.accesses (side_in machine.old.side halves.now program.now) program.now machine.old memory.old (came_as e) machine.new memory.new) }
 {
     let at = At {
         func: machine.top.func,
@@ -149,8 +146,8 @@ pub(crate) fn do_turn<'a, C: Memory>(
     requires program { IsSound program.now }
     requires runs { is_running machine.old.front ≡ true }
     requires next { machine.old.top.next < 18446744073709551615 }
-    requires stands { code_at (block_of program.now machine.old.top) machine.old.top.next ≡ Some (turn_code turn) }
-    ensures { IfOk result (λ e. (side : AnySide) → side.known ≡ known_of program.now → Ticks C.accesses side (held_of program.now machine.old) memory.now (came_as e) (held_of program.now machine.new) memory.now) }
+    requires stands { StandsAt program.now machine.old (turn_code turn) }
+    ensures { IfOk result (λ e. (side : AnySide) → Knows side program.now → TicksTo C.accesses side program.now machine.old memory.now (came_as e) machine.new memory.now) }
 {
     let at = At {
         func: machine.top.func,

@@ -1,22 +1,20 @@
 // A declared array of characters is given a text (C99 6.7.8, paragraph 14).
 
-ghost use Rattle.std.specs.Prelude.{◌≡◌, ◌<◌, ℕ, true, Some, pos, slice_get};
+ghost use Rattle.std.specs.Prelude.{◌≡◌, ◌<◌, true, pos, slice_get};
 ghost use Rattle.std.specs.Option.{option_map};
 ghost use Rattle.mdr_core.specs.Code.{Code};
 ghost use Rattle.mdr_core.specs.Conversions.{converted};
 ghost use Rattle.mdr_meaning.specs.declared.wire.Wire.TheVariants as wire;
-ghost use Rattle.mdr_meaning.specs.Sides.{Locals, Side as AnySide, Ends, in_here};
+ghost use Rattle.mdr_meaning.specs.Sides.{Locals, Ends};
 ghost use Rattle.mdr_core.specs.declared.types.Ty.{out-Ty};
 ghost use Rattle.mdr_meaning.specs.Statements.{characters, element, kind_by};
 ghost use Rattle.mdr_meaning.specs.Values.{wire_of};
 ghost use Rattle.mdr_events.specs.Outcomes.{when_made};
-ghost use Rattle.mdr_events.specs.Steps.{Ticks};
 ghost use Rattle.mdr_exec.specs.Beginning.{came_of};
 ghost use Rattle.mdr_exec.specs.Declaring.{slot_as};
 ghost use Rattle.mdr_exec.specs.Effects.{did, stored, texts_of};
-ghost use Rattle.mdr_exec.specs.Holding.{block_of, held_of, is_running};
-ghost use Rattle.mdr_exec.specs.Leaving.{here_in};
-ghost use Rattle.mdr_exec.specs.Places.{code_at};
+ghost use Rattle.mdr_exec.specs.Executing.{BeginsOnEach};
+ghost use Rattle.mdr_exec.specs.Holding.{is_running};
 
 use crate::assign::stored;
 use crate::frame::{Flow, Machine};
@@ -101,7 +99,7 @@ pub(crate) fn begin_text<C: Memory>(
 ) -> Option<StopKind>
     requires runs { is_running machine.old.front ≡ true }
     requires next { machine.old.top.next < 18446744073709551615 }
-    ensures { (side : AnySide) (n : ℕ) → code_at (block_of program.now machine.old.top) machine.old.top.next ≡ Some (Code.Text n i bytes.now) → Ticks C.accesses side (held_of program.now machine.old) memory.old (came_of result (in_here (here_in program.now machine.old) n)) (held_of program.now machine.new) memory.new }
+    ensures { BeginsOnEach C.accesses program.now machine.old memory.old (λ n. Code.Text n i bytes.now) (came_of result) machine.new memory.new }
 {
     let kind = characters(slot_in(program, machine.top.func, i));
     let done = put_text(

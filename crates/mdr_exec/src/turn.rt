@@ -1,24 +1,21 @@
 // One step of the machine, whatever comes next.
 
-ghost use Rattle.std.specs.Prelude.{◌≡◌, ◌<◌, [], true, IfOk, Some};
+ghost use Rattle.std.specs.Prelude.{◌≡◌, ◌<◌, [], true, IfOk};
 ghost use Rattle.mdr_core.specs.declared.program.Program.{Program as AnyProgram};
 ghost use Rattle.mdr_core.specs.Folds.{code_of};
 ghost use Rattle.mdr_core.specs.Sound.{IsSound};
 ghost use Rattle.mdr_exec.specs.declared.frame.Front.TheVariants as front;
-ghost use Rattle.mdr_meaning.specs.Bodies.{known_of};
 ghost use Rattle.mdr_meaning.specs.Lives.{asked_for};
 ghost use Rattle.mdr_meaning.specs.Sides.{Side as AnySide};
 ghost use Rattle.mdr_events.specs.Ready.{IsReady};
 ghost use Rattle.mdr_events.specs.Running.{is_block};
 ghost use Rattle.mdr_events.specs.Steps.{Asks};
 ghost use Rattle.mdr_events.specs.Values.{wires_of};
-ghost use Rattle.mdr_exec.specs.Closing.{asks_on};
 ghost use Rattle.mdr_exec.specs.Events.{came_as, came_with};
+ghost use Rattle.mdr_exec.specs.Executing.{AsksAs, Knows, StandsAt, TurnsOwn, TurnsTo};
 ghost use Rattle.mdr_exec.specs.Found.{turn_code};
-ghost use Rattle.mdr_exec.specs.Going.{SteppedTo, stepped_with};
-ghost use Rattle.mdr_exec.specs.Halves.{side_in};
-ghost use Rattle.mdr_exec.specs.Holding.{block_of, held_of, is_running};
-ghost use Rattle.mdr_exec.specs.Places.{code_at};
+ghost use Rattle.mdr_exec.specs.Going.{stepped_with};
+ghost use Rattle.mdr_exec.specs.Holding.{held_of, is_running};
 ghost use Rattle.mdr_exec.specs.Went.{left_came};
 
 use crate::begin::begin_block;
@@ -92,8 +89,8 @@ fn step_statement<C: Memory>(
     requires program { IsSound program.now }
     requires runs { is_running machine.old.front ≡ true }
     requires next { machine.old.top.next < 18446744073709551615 }
-    requires stands { code_at (block_of program.now machine.old.top) machine.old.top.next ≡ Some (code_of statement.now) }
-    ensures { IfOk result (λ r. SteppedTo C.accesses (side_in machine.old.side halves.now program.now) (held_of program.now machine.old) memory.old left r (held_of program.now machine.new) memory.new) }
+    requires stands { StandsAt program.now machine.old (code_of statement.now) }
+    ensures { IfOk result (λ r. TurnsOwn C.accesses halves.now program.now machine.old memory.old left r machine.new memory.new) }
 {
     if is_block(statement) {
         begin_block(machine, alloc)?;
@@ -121,8 +118,8 @@ fn step_turn<'a, C: Memory>(
     requires program { IsSound program.now }
     requires runs { is_running machine.old.front ≡ true }
     requires next { machine.old.top.next < 18446744073709551615 }
-    requires stands { code_at (block_of program.now machine.old.top) machine.old.top.next ≡ Some (turn_code turn) }
-    ensures { IfOk result (λ r. (side : AnySide) → side.known ≡ known_of program.now → SteppedTo C.accesses side (held_of program.now machine.old) memory.now left r (held_of program.now machine.new) memory.now) }
+    requires stands { StandsAt program.now machine.old (turn_code turn) }
+    ensures { IfOk result (λ r. (side : AnySide) → Knows side program.now → TurnsTo C.accesses side program.now machine.old memory.now left r machine.new memory.now) }
 {
     if left == 0 {
         return Ok(Stepped::Wants(At {
@@ -145,7 +142,7 @@ fn step_next<C: Memory>(
 ) -> Result<Stepped, OutOfMemory>
     requires program { IsSound program.now }
     requires runs { is_running machine.old.front ≡ true }
-    ensures { IfOk result (λ r. SteppedTo C.accesses (side_in machine.old.side halves.now program.now) (held_of program.now machine.old) memory.old left r (held_of program.now machine.new) memory.new) }
+    ensures { IfOk result (λ r. TurnsOwn C.accesses halves.now program.now machine.old memory.old left r machine.new memory.new) }
 {
     match stands_next(machine, program) {
         Some(Standing::Statement(statement)) => {
@@ -198,7 +195,7 @@ fn step_back<C: Memory>(
 ) -> Result<Stepped, OutOfMemory>
     requires unwinds { machine.old.front ≡ front.Unwinds flow }
     requires started { machine.old.below ≡ [] → ⊥ }
-    ensures { IfOk result (λ r. (side : AnySide) → side.asks ≡ asks_on machine.old.side → SteppedTo C.accesses side (held_of program.now machine.old) memory.old left r (held_of program.now machine.new) memory.new) }
+    ensures { IfOk result (λ r. (side : AnySide) → AsksAs side machine.old → TurnsTo C.accesses side program.now machine.old memory.old left r machine.new memory.new) }
 {
     let at = At {
         func: machine.top.func,
@@ -218,7 +215,7 @@ fn step_comes<C: Memory>(
 ) -> Stepped
     requires program { IsSound program.now }
     requires comes { machine.old.front ≡ front.Comes value }
-    ensures { (side : AnySide) → side.known ≡ known_of program.now → SteppedTo C.accesses side (held_of program.now machine.old) memory.old left result (held_of program.now machine.new) memory.new }
+    ensures { (side : AnySide) → Knows side program.now → TurnsTo C.accesses side program.now machine.old memory.old left result machine.new memory.new }
 {
     with_event(keep(machine, program, memory, value), left)
 }
@@ -232,7 +229,7 @@ fn step_enters<C: Memory>(
     left: u64,
 ) -> Result<Stepped, OutOfMemory>
     requires { machine.old.front ≡ front.Enters }
-    ensures { IfOk result (λ r. (side : AnySide) → side.known ≡ known_of program.now → side.asks ≡ asks_on machine.old.side → SteppedTo C.accesses side (held_of program.now machine.old) memory.old left r (held_of program.now machine.new) memory.new) }
+    ensures { IfOk result (λ r. (side : AnySide) → Knows side program.now → AsksAs side machine.old → TurnsTo C.accesses side program.now machine.old memory.old left r machine.new memory.new) }
 {
     let asks = asks_on(machine.side);
     let event = enter_function(machine, alloc, program, memory, asks)?;
@@ -247,7 +244,7 @@ fn step_fills<C: Memory>(
     memory: &mut C,
     left: u64,
 ) -> Result<Stepped, OutOfMemory>
-    ensures { IfOk result (λ r. (side : AnySide) → SteppedTo C.accesses side (held_of program.now machine.old) memory.old left r (held_of program.now machine.new) memory.new) }
+    ensures { IfOk result (λ r. (side : AnySide) → TurnsTo C.accesses side program.now machine.old memory.old left r machine.new memory.new) }
 {
     let front = mem::replace(&mut machine.front, Front::Runs);
     match front {
@@ -271,7 +268,7 @@ fn step_born<C: Memory>(
     left: u64,
 ) -> Result<Stepped, OutOfMemory>
     requires { machine.old.front ≡ front.Born slot pointer }
-    ensures { IfOk result (λ r. (program : AnyProgram) (side : AnySide) → SteppedTo C.accesses side (held_of program machine.old) memory.now left r (held_of program machine.new) memory.now) }
+    ensures { IfOk result (λ r. (program : AnyProgram) (side : AnySide) → TurnsTo C.accesses side program machine.old memory.now left r machine.new memory.now) }
 {
     take_object(machine, slot, pointer)?;
     Ok(Stepped::Goes(left))
@@ -288,7 +285,7 @@ pub(crate) fn step<C: Memory>(
 ) -> Result<Stepped, OutOfMemory>
     requires program { IsSound program.now }
     requires ready { IsReady (held_of program.now machine.old) }
-    ensures { IfOk result (λ r. SteppedTo C.accesses (side_in machine.old.side halves.now program.now) (held_of program.now machine.old) memory.old left r (held_of program.now machine.new) memory.new) }
+    ensures { IfOk result (λ r. TurnsOwn C.accesses halves.now program.now machine.old memory.old left r machine.new memory.new) }
 {
     match &machine.front {
         Front::Runs => {

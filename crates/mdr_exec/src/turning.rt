@@ -1,13 +1,10 @@
 // Tests of integers, and lists of statements that are entered and left at once.
 
-ghost use Rattle.std.specs.Prelude.{◌≡◌, ◌<◌, ℕ, IfOk, OnOk, Some, None, true, false, unwrap_or};
-ghost use Rattle.mdr_core.specs.Code.{Code, Codes};
+ghost use Rattle.std.specs.Prelude.{◌≡◌, ◌<◌, IfOk, OnOk, None, true, false, unwrap_or};
 ghost use Rattle.mdr_core.specs.Folds.{code_of, codes_of, term_of};
-ghost use Rattle.mdr_meaning.specs.Bodies.{known_of};
-ghost use Rattle.mdr_meaning.specs.Sides.{Side as AnySide};
-ghost use Rattle.mdr_events.specs.Steps.{Goes, Ticks};
-ghost use Rattle.mdr_exec.specs.Holding.{block_of, held_of, is_running};
-ghost use Rattle.mdr_exec.specs.Places.{code_at};
+ghost use Rattle.mdr_events.specs.Steps.{Goes};
+ghost use Rattle.mdr_exec.specs.Executing.{BeginsIf, BeginsLoop, StandsAt};
+ghost use Rattle.mdr_exec.specs.Holding.{block_of, is_running};
 ghost use Rattle.mdr_exec.specs.Quick.{IsAsBefore, RunsOn, TakesTick};
 
 use crate::behind::leave_at_once;
@@ -30,7 +27,7 @@ fn turn<C: Memory>(
 ) -> Result<bool, AllocError>
     requires runs { is_running machine.old.front ≡ true }
     requires next { machine.old.top.next < 18446744073709551615 }
-    ensures done { IfOk result (λ done. done ≡ true → (side : AnySide) (n : ℕ) (step body : Codes) → side.known ≡ known_of program.now → code_at (block_of program.now machine.old.top) machine.old.top.next ≡ Some (Code.Loop n (term_of test.now) step body) → Ticks C.accesses side (held_of program.now machine.old) memory.now Goes (held_of program.now machine.new) memory.now) }
+    ensures done { IfOk result (λ done. done ≡ true → BeginsLoop C.accesses program.now machine.old memory.now (term_of test.now) (λ p. Goes) machine.new memory.now) }
     ensures machine { IfOk result (λ done. done ≡ false → machine.new ≡ machine.old) }
     ensures as_before { OnOk result (IsAsBefore machine.old machine.new) }
 {
@@ -58,7 +55,7 @@ fn branch<C: Memory>(
 ) -> Result<bool, AllocError>
     requires runs { is_running machine.old.front ≡ true }
     requires next { machine.old.top.next < 18446744073709551615 }
-    ensures done { IfOk result (λ done. done ≡ true → (side : AnySide) (n : ℕ) (one other : Codes) → side.known ≡ known_of program.now → code_at (block_of program.now machine.old.top) machine.old.top.next ≡ Some (Code.If n (term_of test.now) one other) → Ticks C.accesses side (held_of program.now machine.old) memory.now Goes (held_of program.now machine.new) memory.now) }
+    ensures done { IfOk result (λ done. done ≡ true → BeginsIf C.accesses program.now machine.old memory.now (term_of test.now) (λ p. Goes) machine.new memory.now) }
     ensures machine { IfOk result (λ done. done ≡ false → machine.new ≡ machine.old) }
     ensures as_before { OnOk result (IsAsBefore machine.old machine.new) }
 {
@@ -86,7 +83,7 @@ fn by_test<C: Memory>(
 ) -> Result<bool, AllocError>
     requires runs { is_running machine.old.front ≡ true }
     requires next { machine.old.top.next < 18446744073709551615 }
-    requires stands { code_at (block_of program.now machine.old.top) machine.old.top.next ≡ Some (code_of statement.now) }
+    requires stands { StandsAt program.now machine.old (code_of statement.now) }
     ensures done { IfOk result (λ done. done ≡ true → TakesTick C.accesses program.now machine.old memory.now machine.new memory.now) }
     ensures machine { IfOk result (λ done. done ≡ false → machine.new ≡ machine.old) }
     ensures as_before { OnOk result (IsAsBefore machine.old machine.new) }

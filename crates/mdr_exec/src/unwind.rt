@@ -2,16 +2,14 @@
 
 ghost use Rattle.std.specs.Prelude.{◌≡◌, ◌&&◌, [], IfOk, not};
 ghost use Rattle.mdr_core.specs.declared.program.Program.{Program as AnyProgram};
-ghost use Rattle.mdr_meaning.specs.Sides.{Side as AnySide, in_here};
-ghost use Rattle.mdr_events.specs.Steps.{Steps};
+ghost use Rattle.mdr_meaning.specs.Sides.{Side as AnySide};
 ghost use Rattle.mdr_events.specs.Values.{wires_of};
 ghost use Rattle.mdr_exec.specs.declared.frame.Front.TheVariants as front;
-ghost use Rattle.mdr_exec.specs.Closing.{DiesAt, asks_on};
-ghost use Rattle.mdr_exec.specs.Holding.{block_of, flow_as, held_of};
-ghost use Rattle.mdr_exec.specs.Leaving.{ending_by, here_in, is_loop};
+ghost use Rattle.mdr_exec.specs.Holding.{block_of, flow_as};
+ghost use Rattle.mdr_exec.specs.Leaving.{ending_by, is_loop};
 ghost use Rattle.mdr_exec.specs.Places.{code_before};
 ghost use Rattle.mdr_exec.specs.Unwinding.{is_return};
-ghost use Rattle.mdr_exec.specs.Went.{dies_in, inside, left_came};
+ghost use Rattle.mdr_exec.specs.Went.{Dies, LeavesBy, dies_in, inside, left_came};
 
 use crate::close::{die, end_function};
 use crate::frame::{Flow, Machine};
@@ -35,7 +33,7 @@ pub enum Left {
 /// The objects of the innermost block die, with which a block or a function ends.
 fn let_die<C: Memory>(machine: &mut Machine, alloc: Global, memory: &mut C, flow: Flow) -> Left
     requires { machine.old.front ≡ front.Unwinds flow }
-    ensures { (program : AnyProgram) (side : AnySide) → DiesAt (flow_as flow) (held_of program machine.old).items → side.asks ≡ asks_on machine.old.side → Steps C.accesses side (held_of program machine.old) memory.old (left_came result (in_here (here_in program machine.old) 0)) (held_of program machine.new) memory.new }
+    ensures { Dies C.accesses machine.old memory.old (flow_as flow) (λ asks. left_came result) machine.new memory.new }
 {
     match die(machine, alloc, memory, flow) {
         None => Left::Goes,
@@ -97,7 +95,7 @@ fn leave_or_die<C: Memory>(
     p: Position,
 ) -> Result<Left, AllocError>
     requires { machine.old.front ≡ front.Unwinds flow }
-    ensures { IfOk result (λ r. (side : AnySide) → side.asks ≡ asks_on machine.old.side → Steps C.accesses side (held_of program.now (inside machine.old p)) memory.old (left_came r (in_here (here_in program.now machine.old) 0)) (held_of program.now machine.new) memory.new) }
+    ensures { IfOk result (λ r. (side : AnySide) → LeavesBy C.accesses side program.now (inside machine.old p) memory.old (left_came r) machine.new memory.new) }
 {
     let ending = ending_at(machine, program, p.part, p.next);
     if dies_in(machine, program, flow, p.part, p.next, ending) {
@@ -114,7 +112,7 @@ fn end_or_die<C: Memory>(machine: &mut Machine, alloc: Global, memory: &mut C, f
     requires unwinds { machine.old.front ≡ front.Unwinds flow }
     requires outside { machine.old.top.path ≡ [] }
     requires started { machine.old.below ≡ [] → ⊥ }
-    ensures { (program : AnyProgram) (side : AnySide) → side.asks ≡ asks_on machine.old.side → Steps C.accesses side (held_of program machine.old) memory.old (left_came result (in_here (here_in program machine.old) 0)) (held_of program machine.new) memory.new }
+    ensures { (program : AnyProgram) (side : AnySide) → LeavesBy C.accesses side program machine.old memory.old (left_came result) machine.new memory.new }
 {
     if machine.top.born.is_empty() {
         match end_function(machine, alloc, flow) {
@@ -136,7 +134,7 @@ pub(crate) fn unwind<C: Memory>(
 ) -> Result<Left, AllocError>
     requires unwinds { machine.old.front ≡ front.Unwinds flow }
     requires started { machine.old.below ≡ [] → ⊥ }
-    ensures { IfOk result (λ r. (side : AnySide) → side.asks ≡ asks_on machine.old.side → Steps C.accesses side (held_of program.now machine.old) memory.old (left_came r (in_here (here_in program.now machine.old) 0)) (held_of program.now machine.new) memory.new) }
+    ensures { IfOk result (λ r. (side : AnySide) → LeavesBy C.accesses side program.now machine.old memory.old (left_came r) machine.new memory.new) }
 {
     match last_off(alloc, &mut machine.top.path) {
         Some(p) => {

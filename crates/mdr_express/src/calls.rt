@@ -7,12 +7,14 @@ ghost use Rattle.mdr_operand.specs.declared.operand.Operand.{Operand};
 ghost use Rattle.mdr_operand.specs.Signs.{prefix_operator};
 ghost use Rattle.mdr_operand.specs.Written.{Written, written_of, written_what, written_list};
 ghost use Rattle.mdr_express.specs.Expressions.{fronted_rule, typed, arguments_of, target_of, call_at};
+ghost use Rattle.mdr_express.specs.Making.{IsMade, call_as_value};
 ghost use Rattle.mdr_call.specs.declared.parts.Argument.{Argument};
 ghost use Rattle.mdr_call.specs.declared.parts.Target.{Target};
 ghost use Rattle.mdr_call.specs.declared.parts.Target.TheVariants as target;
 ghost use Rattle.mdr_call.specs.declared.parts.TypedCall.{TypedCall};
 ghost use Rattle.mdr_call.specs.Services.{service_named};
-ghost use Rattle.mdr_call.specs.Calls.{callee_behind, starred_callee, as_target, named_target, argument_by, call_rule, call_value};
+ghost use Rattle.mdr_call.specs.Calls.{callee_behind, starred_callee, as_target, named_target};
+ghost use Rattle.mdr_call.specs.Calls.{argument_by, call_rule, call_value};
 
 use crate::form::{expression, expression_at, fronted};
 use crate::parts::{both_made, left_over};
@@ -207,7 +209,7 @@ pub fn call_of_parts(
     callee: Result<Result<Target, Fault>, OutOfMemory>,
     arguments: Result<Result<Items<Argument>, Fault>, OutOfMemory>,
 ) -> Result<Result<TypedCall, Fault>, OutOfMemory>
-    ensures { (t : Checked Target) (args : Checked (List Argument)) → IfOk callee (λ x. x ≡ told t) → IfOk arguments (λ y. y ≡ told args) → IfOk result (λ r. r ≡ told (call_rule scope.now place t args)) }
+    ensures { (t : Checked Target) (args : Checked (List Argument)) → IsMade callee t → IsMade arguments args → IfOk result (λ r. r ≡ told (call_rule scope.now place t args)) }
 {
     let parts = both_made(callee, arguments)?;
     Ok(call_rule(alloc, scope, place, parts.0, parts.1)?)
@@ -252,7 +254,7 @@ pub fn call_form(
     callee: Result<Result<Target, Fault>, OutOfMemory>,
     arguments: Result<Result<Items<Argument>, Fault>, OutOfMemory>,
 ) -> Result<Result<Operand, Fault>, OutOfMemory>
-    ensures { (t : Checked Target) (args : Checked (List Argument)) → IfOk callee (λ x. x ≡ told t) → IfOk arguments (λ y. y ≡ told args) → IfOk result (λ r. r ≡ told (after (call_rule scope.now place t args) (call_value place))) }
+    ensures { (t : Checked Target) (args : Checked (List Argument)) → IsMade callee t → IsMade arguments args → IfOk result (λ r. r ≡ told (call_as_value scope.now place t args)) }
 {
     let call = call_of_parts(alloc, scope, place, callee, arguments);
     valued(alloc, place, call)

@@ -7,7 +7,8 @@ ghost use Rattle.mdr_core.specs.declared.types.Ty.{Ty};
 ghost use Rattle.mdr_syntax.specs.declared.tree.Decl.{out-Decl};
 ghost use Rattle.mdr_faults.specs.declared.scope.Scope.{Scope};
 ghost use Rattle.mdr_faults.specs.Faults.{Checked, told, after};
-ghost use Rattle.mdr_faults.specs.Declarations.{struct_named, base_type, type_named, declarator_by, result_type, parameter_type, function_type, declarator, is_same_name, parameter_among, parameter_list};
+ghost use Rattle.mdr_faults.specs.Declarations.{struct_named, base_type, type_named, declarator_by, result_type, parameter_type};
+ghost use Rattle.mdr_faults.specs.Declarations.{function_type, declarator, is_same_name, parameter_among, parameter_list};
 
 use crate::fault::{Fault, FaultKind};
 use crate::joining::{both, demanded, extended};

@@ -7,8 +7,6 @@ mod driver;
 mod generator;
 mod put;
 mod script;
-#[cfg(test)]
-mod tests;
 
 pub use answer::{Counts, answer_text};
 pub use generator::generate;

@@ -4,7 +4,8 @@ ghost use Rattle.std.specs.Prelude.{◌≡◌, ◌++◌, IfOk, OnOk, List};
 ghost use Rattle.std.specs.Str.{bytes_eq};
 ghost use Rattle.mdr_print.specs.Marks.{Appends, spell, newline, ◌▸◌};
 ghost use Rattle.mdr_print.specs.Items.{item_words, printed};
-ghost use Rattle.mdr_half.specs.Joins.{item_text, are_alike, part_of, part_of_proto, remote_of, whole_by, whole_of, whole_item, joined_item, joined_from, joined, Refuses, JoinsItem, JoinsItems, Joins};
+ghost use Rattle.mdr_half.specs.Joins.{item_text, are_alike, part_of, part_of_proto, remote_of, whole_by, whole_of, whole_item};
+ghost use Rattle.mdr_half.specs.Joins.{joined_item, joined_from, joined, Refuses, JoinsItem, JoinsItems, Joins};
 
 use crate::join_error::JoinError;
 use mdr_core::{Items, OutOfMemory};

@@ -1,7 +1,8 @@
 // The text of a plan.
 
 ghost use Rattle.std.specs.Prelude.{◌≡◌, ◌++◌, OnOk, IfOk, codes, decimal, slice_get};
-ghost use Rattle.mdr_half.specs.Plans.{half_or_user, true_or_not, keys_or_none, heading, type_line, half_text, root_text, function_line, down_line, key_text, key_line, key_lines, up_lines_of, ending, type_lines, function_lines, down_lines, up_lines, plan_text, newline};
+ghost use Rattle.mdr_half.specs.Plans.{half_or_user, true_or_not, keys_or_none, heading, type_line, half_text, root_text, function_line, down_line, key_text};
+ghost use Rattle.mdr_half.specs.Plans.{key_line, key_lines, up_lines_of, ending, type_lines, function_lines, down_lines, up_lines, plan_text, newline};
 
 use crate::put::{put_bytes, put_newline, put_number, put_word};
 use mdr_core::{Half, Items, Key, Name, OutOfMemory, Plan, Program, Ty, type_text};

@@ -13,7 +13,7 @@ use crate::misfit::Misfit;
 use crate::outcome::HalfSource;
 use mdr_body::Rule;
 use mdr_check_half::check_half;
-use mdr_core::{Limit, OutOfMemory, Plan, Program, has_few_numbers};
+use mdr_core::{OutOfMemory, Plan, Program, few};
 use mdr_express::left_over;
 use mdr_faults::Fault;
 use mdr_parse::{ParseError, parse};
@@ -117,22 +117,14 @@ fn found_in(alloc: Global, plan: &Plan, user: &[u8]) -> Result<Option<Program>, 
     }
 }
 
-/// A program that has few numbers or not. One that hasn't finds no memory.
-fn within<P: Drop>(is_few: bool, program: P) -> Result<Option<P>, OutOfMemory>
-    ensures { IfOk result (λ o. (o ≡ Some program) × (is_few ≡ true)) }
-{
-    if is_few {
-        Ok(Some(program))
-    } else {
-        Err(Limit::Parts.past())
-    }
-}
-
-fn few(program: Program) -> Result<Option<Program>, OutOfMemory>
+/// A program whose types, globals, structs and functions are few. One that has more finds no memory.
+fn counted_program(program: Program) -> Result<Option<Program>, OutOfMemory>
     ensures { IfOk result (λ o. (o ≡ Some program) × HasFewNumbers program) }
 {
-    let is_few = has_few_numbers(&program);
-    within(is_few, program)
+    match few(&program) {
+        Ok(()) => Ok(Some(program)),
+        Err(error) => left_over(error, program),
+    }
 }
 
 /// What was found, if its types, globals, structs and functions are few.
@@ -140,7 +132,7 @@ fn counted(found: Option<Program>) -> Result<Option<Program>, OutOfMemory>
     ensures { (user : List ℕ) (plan : AnyPlan) → Finds user plan found → IfOk result (HasHalf user plan) }
 {
     match found {
-        Some(program) => few(program),
+        Some(program) => counted_program(program),
         None => Ok(None),
     }
 }

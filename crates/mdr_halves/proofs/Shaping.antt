@@ -7,9 +7,9 @@ use Rattle.mdr_half.specs.Joins.{are_alike, part_of, remote_of, whole_by, whole_
 use Rattle.mdr_print.specs.Items.{tree_marks, printed}
 use Rattle.mdr_print.specs.Spelled.{spelled}
 use Rattle.mdr_print.proofs.Reading.{reads_tree}
-use Rattle.mdr_reread.specs.Whole.{is_printable_item, is_printable_line}
-use Rattle.mdr_reread.proofs.ItemsApart.{trees_apart}
-use Rattle.mdr_reread.proofs.Tests.{both}
+use Rattle.mdr_roundtrip.specs.Whole.{is_printable_item, is_printable_line}
+use Rattle.mdr_roundtrip.proofs.ItemsApart.{trees_apart}
+use Rattle.mdr_roundtrip.proofs.Tests.{both}
 use Rattle.mdr_roundtrip.specs.Again.{IsPrintedAsSource}
 use Rattle.mdr_roundtrip.specs.Itemised.{is_shaped_item, is_shaped_what}
 use Rattle.mdr_roundtrip.proofs.Bools.{also}

@@ -46,12 +46,16 @@ field_of name o a = record { name = name_or_none name; ty = o.ty; count = o.coun
 unfoldable pub annotated_field : Scope → List Candidate → Decl → Object → Checked Field
 annotated_field scope siblings d o = after (annotated scope siblings (out-Decl d).place o.ty (out-Decl d).ann) (λ a. Right (field_of (out-Decl d).name o a))
 
--- the members of a struct are a name space (6.2.3), so no name of a field is around the parameters in another. There are at most 64
+-- a field has a name of its own among those before it, and there are at most 64
+abbrev pub may_follow : (before : List Decl) → Decl → Checked Field → Checked Field
+may_follow before d field =
+    demand (out-Decl d).place Redefined (not (list_any (λ b. is_same_name (out-Decl b).name (out-Decl d).name) before))
+    (demand (out-Decl d).place Limit (not (length before == 64)) field)
+
+-- the members of a struct are a name space (6.2.3), so no name of a field is around the parameters in another
 unfoldable pub field_among : Scope → (limit : Place) → List Candidate → (before : List Decl) → Decl → Checked Field
 field_among scope limit siblings before d =
-    demand (out-Decl d).place Redefined (not (list_any (λ b. is_same_name (out-Decl b).name (out-Decl d).name) before))
-    (demand (out-Decl d).place Limit (not (length before == 64))
-    (beside (within scope [] d) (after (object_declared scope limit d) (annotated_field scope siblings d))))
+    may_follow before d (beside (within scope [] d) (after (object_declared scope limit d) (annotated_field scope siblings d)))
 
 unfoldable pub fields_behind : Scope → (limit : Place) → List Candidate → (before : List Decl) → List Decl → Checked (List Field)
 fields_behind scope limit siblings before [] = Right []

@@ -9,7 +9,9 @@ ghost use Rattle.mdr_faults.specs.Faults.{told, refuse};
 ghost use Rattle.mdr_faults.specs.declared.fault.FaultKind.TheVariants.{BadAnnotation, UnknownName};
 ghost use Rattle.mdr_faults.specs.Declarations.{is_same_name};
 ghost use Rattle.mdr_core.specs.declared.types.Ann.{Ann};
-ghost use Rattle.mdr_headings.specs.Annotations.{is_integer, candidate_by, candidate, as_length, named_constant, named_global, sibling_named, has_sibling, no_length, or_constant, or_sibling, or_global, field_suits, length_named, array_length, field_named, sentinel_at, sentinel_among, sentinel_of, target_by, array_on, sentinel_on, is_character, points_to_characters, is_data_pointer, suits_if, annotated};
+ghost use Rattle.mdr_headings.specs.Annotations.{is_integer, candidate_by, candidate, as_length, named_constant, named_global, sibling_named, has_sibling, no_length, or_constant};
+ghost use Rattle.mdr_headings.specs.Annotations.{or_sibling, or_global, field_suits, length_named, array_length, field_named, sentinel_at, sentinel_among, sentinel_of, target_by};
+ghost use Rattle.mdr_headings.specs.Annotations.{array_on, sentinel_on, is_character, points_to_characters, is_data_pointer, suits_if, annotated};
 
 use mdr_core::{Ann, Items, Kind, LenOf, Name, OutOfMemory, Place, Ty};
 use mdr_faults::{

@@ -4,7 +4,9 @@ ghost use Rattle.std.specs.Prelude.{◌≡◌, ◌==◌, ◌&&◌, ◌||◌, not
 ghost use Rattle.std.specs.Option.{option_copied};
 ghost use Rattle.mdr_headings.specs.declared.head.Heading.{Heading};
 ghost use Rattle.mdr_faults.specs.Faults.{Checked, told};
-ghost use Rattle.mdr_headings.specs.Functions.{defines_by, is_defined, is_body_by, has_body, is_same_length, is_same_ann, is_same_param, are_same_params, is_same_heading, agrees, function_named, agrees_with, may_stand, is_taken, function_means, behind_function, declared_unless, function_rule, function_declared, functions_behind};
+ghost use Rattle.mdr_headings.specs.Functions.{defines_by, is_defined, is_body_by, has_body, is_same_length, is_same_ann, is_same_param, are_same_params, is_same_heading, agrees};
+ghost use Rattle.mdr_headings.specs.Functions.{function_named, agrees_with, may_stand, is_taken, function_means, behind_function, declared_unless, function_rule};
+ghost use Rattle.mdr_headings.specs.Functions.{function_declared, functions_behind};
 
 use crate::head::{Heading, checked_heading};
 use crate::source::signature;

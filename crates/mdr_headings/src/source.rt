@@ -8,7 +8,8 @@ ghost use Rattle.mdr_faults.specs.Declarations.{declarator, parameter_list};
 ghost use Rattle.mdr_faults.specs.Faults.{Checked, told, both};
 ghost use Rattle.mdr_faults.specs.Scopes.{tag_named};
 ghost use Rattle.mdr_headings.specs.Structs.{struct_entry};
-ghost use Rattle.mdr_headings.specs.Source.{has_tag, with_tag, tags_behind, tags_from, defined_constant, defines_behind, defines_from, is_numbered, with_struct_if, behind_struct, signature_by, signature};
+ghost use Rattle.mdr_headings.specs.Source.{has_tag, with_tag, tags_behind, tags_from, defined_constant, defines_behind, defines_from, is_numbered, with_struct_if, behind_struct};
+ghost use Rattle.mdr_headings.specs.Source.{signature_by, signature};
 
 use crate::head::head_result;
 use crate::structs::struct_entry;

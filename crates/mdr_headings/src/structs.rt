@@ -1,15 +1,13 @@
 // Structs (C99 6.7.2.1).
 
-ghost use Rattle.std.specs.Prelude.{◌≡◌, ◌==◌, [], IfOk, List, length, map, not};
-ghost use Rattle.std.specs.List.{list_any};
+ghost use Rattle.std.specs.Prelude.{◌≡◌, [], IfOk, List, map};
 ghost use Rattle.mdr_core.specs.declared.program.Field.{Field};
-ghost use Rattle.mdr_syntax.specs.declared.tree.Decl.{out-Decl};
 ghost use Rattle.mdr_faults.specs.declared.scope.Object.{Object};
-ghost use Rattle.mdr_faults.specs.Faults.{Checked, told, after, demand};
-ghost use Rattle.mdr_faults.specs.declared.fault.FaultKind.TheVariants.{Redefined, Limit};
+ghost use Rattle.mdr_faults.specs.Faults.{Checked, told, after};
 ghost use Rattle.mdr_headings.specs.Annotations.{candidate};
-ghost use Rattle.mdr_faults.specs.Declarations.{cells_of, is_same_name, object_declared};
-ghost use Rattle.mdr_headings.specs.Structs.{is_struct, name_or_none, annotated_field, field_among, fields_behind, number_or_zero, cells_of_fields, struct_rule, struct_fields, member, struct_size, struct_entry};
+ghost use Rattle.mdr_faults.specs.Declarations.{cells_of, object_declared};
+ghost use Rattle.mdr_headings.specs.Structs.{is_struct, name_or_none, annotated_field, field_among, fields_behind, number_or_zero, cells_of_fields};
+ghost use Rattle.mdr_headings.specs.Structs.{may_follow, member, struct_rule, struct_fields, struct_size, struct_entry};
 ghost use Rattle.mdr_headings.specs.Within.{beside, within};
 
 use crate::annotation::annotated;
@@ -96,7 +94,7 @@ fn whole_field(
 }
 
 fn field_rule(before: &[Decl], d: &Decl, field: Result<Field, Fault>) -> Result<Field, Fault>
-    ensures { (c : Checked Field) → field ≡ told c → result ≡ told (demand (out-Decl d.now).place Redefined (not (list_any (λ b. is_same_name (out-Decl b).name (out-Decl d.now).name) before.now)) (demand (out-Decl d.now).place Limit (not (length before.now == 64)) c)) }
+    ensures { (c : Checked Field) → field ≡ told c → result ≡ told (may_follow before.now d.now c) }
 {
     let few = demanded(d.place, FaultKind::Limit, before.len() != 64, field);
     demanded(

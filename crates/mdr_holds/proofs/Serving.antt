@@ -1,5 +1,5 @@
 -- What each service leaves, asked as a fair tree asks it.
-use Rattle.std.proofs.Common.{◌≡◌, inl, inr, ℕ, ℤ, zero, suc, ◌+◌, ◌*◌, ◌<◌, ◌≤◌, ◌≤ℤ◌, Bool, true, false, ◌||◌, List, [], ◌∷◌, ◌++◌, length, map, slice_get, Option, Some, None, Result, Ok, Err, pos, negsuc, refl, sym, ap, ◌∙◌, subst, arith}
+use Rattle.std.proofs.Common.{◌≡◌, inl, inr, ℕ, zero, suc, ◌+◌, ◌*◌, ◌<◌, ◌≤◌, Bool, true, false, ◌||◌, List, [], ◌∷◌, ◌++◌, length, map, slice_get, Option, Some, None, Result, Ok, Err, pos, negsuc, refl, sym, ap, ◌∙◌, subst, arith}
 use Rattle.std.specs.Prelude.{◌==◌, nat_lt}
 use Rattle.std.proofs.lemmas.Bool.{and_parts, eq-eqb}
 use Rattle.std.proofs.lemmas.Int.{ints}
@@ -19,19 +19,19 @@ use Rattle.mdr_core.specs.Services.{Service, Kzalloc, Kcalloc, Kfree, Readl, Wri
 use Rattle.mdr_core.specs.Sound.{IsSound}
 use Rattle.mdr_core.proofs.Laid.{type_has_cells}
 use Rattle.mdr_core.proofs.Lying.{cells_of_type}
-use Rattle.mdr_core.proofs.Ranges.{in_range-from, in_range-greatest}
+use Rattle.mdr_core.proofs.Ranges.{in_range-from}
 use Rattle.mdr_device.specs.Machines.{read as read_register, written}
 use Rattle.mdr_meaning.specs.declared.shape.Shape64.{Shape64}
 use Rattle.mdr_meaning.specs.declared.wire.Wire.{Wire}
 use Rattle.mdr_meaning.specs.declared.wire.Wire.TheVariants as wire
 use Rattle.mdr_meaning.specs.declared.wire.WireView.{WireView}
 use Rattle.mdr_meaning.specs.Fair.{AllFit, AreBorn, IsAsk, IsServed, Leaves, TakesHandler, after, is_first_type}
-use Rattle.mdr_meaning.specs.Fit.{Fits, FitsLayer, IsDataPointer, IsInteger, Knowledge, PointsTo}
+use Rattle.mdr_meaning.specs.Fit.{Fits, FitsLayer, IsDataPointer, Knowledge, PointsTo}
 use Rattle.mdr_meaning.specs.Pointers.{size}
 use Rattle.mdr_meaning.specs.Tree.{Asked}
-use Rattle.mdr_meaning.specs.Values.{first_of, natural, natural_of, rest_of}
+use Rattle.mdr_meaning.specs.Values.{first_of, natural, rest_of, saturated_u32}
 use Rattle.mdr_meaning.specs.Within.{Uses}
-use Rattle.mdr_meaning.proofs.FitLaws.{to_integer, to_pointer}
+use Rattle.mdr_meaning.proofs.FitLaws.{to_pointer}
 use Rattle.mdr_model.specs.declared.memory.Cell.{Cell}
 use Rattle.mdr_model.specs.declared.message.BirthKind.{BirthKind}
 use Rattle.mdr_model.specs.declared.message.BirthKind.TheVariants.{Auto, Heap}
@@ -78,18 +78,8 @@ handling_by w w' e = ap (λ (k : Kept). k.in_handler) e
 
 -- ---- numbers
 
-natural_word : (n : ℤ) → is_in_range U32 n ≡ true → IsWord (natural_of n)
-natural_word (pos m) h = let most : pos m ≤ℤ pos 4294967295 = in_range-greatest U32 (pos m) h in omega (arith, ints, most)
-natural_word (negsuc m) h = omega arith
-
-integer_word : (v : Wire) → IsInteger U32 v → IsWord (natural v)
-integer_word (wire.Int k n) h = natural_word n h.1
-integer_word wire.Null h = elim h [ ]
-integer_word (wire.Ptr p) h = elim h [ ]
-integer_word wire.Dead h = elim h [ ]
-integer_word (wire.Fn f) h = elim h [ ]
-integer_word (wire.Lock s) h = elim h [ ]
-integer_word wire.NoValue h = elim h [ ]
+short_word : (n : ℕ) → IsWord (saturated_u32 n)
+short_word n = omega arith
 
 word_in_range : (n : ℕ) → IsWord n → is_in_range U32 (pos n) ≡ true
 word_in_range n h = in_range-from U32 (pos n) (omega (arith, ints, h)) (omega (arith, ints, h))
@@ -326,8 +316,7 @@ module _ (program : Program) (sound : IsSound program) (K : Knowledge) (w : Worl
   by_service a Kfree remains t same = freed_leaves a remains same a.at (first_of (map (normal w.memory) a.args))
   by_service a Readl remains t same = read_leaves a remains same a.at (natural (first_of (map (normal w.memory) a.args)))
   by_service a Writel remains t same =
-      written_leaves a remains same a.at (natural (first_of (rest_of (map (normal w.memory) a.args)))) (natural (first_of (map (normal w.memory) a.args)))
-      (integer_word _ (to_integer program K U32 _ (first_fits program K (map (normal w.memory) a.args) (type.Int U32) (type.Int U32 ∷ []) (all_now program K w.memory a.args (type.Int U32 ∷ type.Int U32 ∷ []) t.fit))))
+      written_leaves a remains same a.at (natural (first_of (rest_of (map (normal w.memory) a.args)))) (saturated_u32 (natural (first_of (map (normal w.memory) a.args)))) (short_word _)
   by_service a Printk remains t same = noting a Printk remains same (λ rs. refl) _ refl refl h.handler [] refl
   by_service a RequestIrq remains t same = requested_leaves a remains same t w.kept.handler
   by_service a FreeIrq remains t same = noting a FreeIrq remains same (λ rs. refl) (record w.kept { handler = None }) refl refl (λ f e. absurd cc) [] refl

@@ -13,9 +13,9 @@ use Rattle.mdr_plan.proofs.Running.{plan_once}
 use Rattle.mdr_check_half.specs.HalfPrograms.{half_typed}
 use Rattle.mdr_check_half.specs.Planned.{IsPlanned}
 use Rattle.mdr_check_half.proofs.Accepted.{plans_suit}
-use Rattle.mdr_sound_code.proofs.Rights.{same_right}
-use Rattle.mdr_sound_half.proofs.HalfSounding.{halves_sound}
-use Rattle.mdr_sound_half.proofs.PlansRead.{plans_planned}
+use Rattle.mdr_sound.proofs.Rights.{same_right}
+use Rattle.mdr_honest.proofs.HalfSounding.{halves_sound}
+use Rattle.mdr_honest.proofs.PlansRead.{plans_planned}
 use Rattle.mdr_half_source.specs.Loads.{AreRefused, ComesTo}
 use Rattle.mdr_honest.specs.Loading.{LoadedHalvesAreSound, LoadedTextsAreNotRefused, TextsLoadOneThing}
 

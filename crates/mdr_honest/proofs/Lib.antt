@@ -1,3 +1,13 @@
+pub mod WrittenSorts
+pub mod PlanTables
+pub mod PlansRead
+pub mod HalfSounding
+pub mod NewNames
+pub mod KeyLists
+pub mod PointerLists
+pub mod Planned
+pub mod Identifiers
+pub mod SourcePlans
 pub mod Halves
 pub mod Taken
 pub mod Bindings

@@ -23,28 +23,28 @@ use Rattle.mdr_source.specs.Backs.{body_calls_back, functions_call_back}
 use Rattle.mdr_source.specs.Sources.{IsSource}
 use Rattle.mdr_half.specs.Halves.{half_of, is_same_half, user_text, user_tree}
 use Rattle.mdr_half.specs.Plans.{plan_text}
-use Rattle.mdr_half_pieces.specs.Bodies.{HaveBodies as HaveEach}
-use Rattle.mdr_half_pieces.specs.Programs.{IsPartOf}
-use Rattle.mdr_half_pieces.specs.Sides.{AreShown, IsShown}
-use Rattle.mdr_half_read.specs.Reading.{ComesToPart}
-use Rattle.mdr_half_whole.specs.Whole.{IsReadOf, IsWhole}
-use Rattle.mdr_half_whole.proofs.Sourced.{sources_have}
-use Rattle.mdr_half_whole.proofs.Together.{user_text_gives}
-use Rattle.mdr_half_whole.specs.Replies.{RepliesAsTheWhole}
-use Rattle.mdr_half_whole.proofs.Printed.{the_user_text_replies_as_the_whole}
+use Rattle.mdr_half_program.specs.Bodies.{HaveBodies as HaveEach}
+use Rattle.mdr_half_program.specs.Programs.{IsPartOf}
+use Rattle.mdr_half_program.specs.Sides.{AreShown, IsShown}
+use Rattle.mdr_half_program.specs.Reading.{ComesToPart}
+use Rattle.mdr_half_program.specs.Whole.{IsReadOf, IsWhole}
+use Rattle.mdr_half_program.proofs.Sourced.{sources_have}
+use Rattle.mdr_half_program.proofs.Together.{user_text_gives}
+use Rattle.mdr_half_program.specs.Replies.{RepliesAsTheWhole}
+use Rattle.mdr_half_program.proofs.Printed.{the_user_text_replies_as_the_whole}
 use Rattle.mdr_cut.specs.Cuts.{IsPlanOf}
 use Rattle.mdr_plan.specs.Texts.{IsPlanText}
 use Rattle.mdr_sound.proofs.Sourced.{ranges_of, bodies_of, sources_sound}
-use Rattle.mdr_sound_code.proofs.Rights.{after_right, same_right}
+use Rattle.mdr_sound.proofs.Rights.{after_right, same_right}
 use Rattle.mdr_sound.proofs.Filed.{types_of_files}
 use Rattle.mdr_sound.proofs.Sorts.{not_wrong}
 use Rattle.mdr_sound.proofs.Itemising.{bytes_proper}
 use Rattle.mdr_sound.proofs.Stating.{profile_sound}
-use Rattle.mdr_source_plans.proofs.Sources.{plans_of_sources_are_read}
+use Rattle.mdr_honest.proofs.SourcePlans.{plans_of_sources_are_read}
 use Rattle.mdr_split.specs.Law.{HaveBodies, IsPlanOf as IsItsPlan}
 use Rattle.mdr_texts.proofs.HalvesAgain.{half_again}
 use Rattle.mdr_type_table.specs.Tabled.{HasFormedPointers}
-use Rattle.mdr_canonical.specs.Plannable.{HasShortNumbers as AreShort}
+use Rattle.mdr_honest.specs.Plannable.{HasShortNumbers as AreShort}
 use Rattle.mdr_outside.specs.declared.far.LoadAnswer.TheVariants as loads
 use Rattle.mdr_honest.specs.Loading.{AreItsHalf, IsCut, TextsOfSourcesAreLoaded, TextsOfSourcesAreTaken}
 use Rattle.mdr_source.proofs.NothingBack.{none_of}

@@ -1,4 +1,4 @@
-// Laws, each as a function that does nothing.
+// Laws of honest far sides and of runs over them, each as a function that does nothing.
 
 ghost use Rattle.mdr_honest.specs.Loading.{LoadedHalvesAreSound, LoadedTextsAreNotRefused, TextsLoadOneThing, TextsOfSourcesAreLoaded, TextsOfSourcesAreTaken};
 ghost use Rattle.mdr_honest.specs.Meanings.{RunIsMeaning};

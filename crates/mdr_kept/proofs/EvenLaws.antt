@@ -16,7 +16,7 @@ use Rattle.mdr_meaning.specs.declared.shape.Shape64.{Shape64}
 use Rattle.mdr_meaning.specs.declared.wire.Wire.{Wire}
 use Rattle.mdr_meaning.specs.declared.wire.Wire.TheVariants as wire
 use Rattle.mdr_meaning.specs.Tree.{Asked}
-use Rattle.mdr_meaning.specs.Values.{first_of, natural, rest_of}
+use Rattle.mdr_meaning.specs.Values.{first_of, natural, rest_of, saturated_u32}
 use Rattle.mdr_meaning.specs.Walk.{Born}
 use Rattle.mdr_model.specs.declared.memory.Cell.{Cell}
 use Rattle.mdr_model.specs.declared.memory.MemoryBlock.{MemoryBlock}
@@ -519,8 +519,8 @@ served_by_fine program a (Some Kfree) w = moved_to (ap (λ v. freed program a.at
 served_by_fine program a (Some Readl) w = moved_to (ap (λ n. register_read a.at n (plainly w)) (first_number a.args)) (register_read_fine a.at (natural (first_of a.args)) w)
 served_by_fine program a (Some Writel) w =
     let register : natural (first_of (rest_of (map spun a.args))) ≡ natural (first_of (rest_of a.args)) = second_number a.args in
-    let word : natural (first_of (map spun a.args)) ≡ natural (first_of a.args) = first_number a.args in
-    moved_to (λ i. register_written a.at (register i) (word i) (plainly w)) (register_written_fine a.at (natural (first_of (rest_of a.args))) (natural (first_of a.args)) w)
+    let word : saturated_u32 (natural (first_of (map spun a.args))) ≡ saturated_u32 (natural (first_of a.args)) = ap saturated_u32 (first_number a.args) in
+    moved_to (λ i. register_written a.at (register i) (word i) (plainly w)) (register_written_fine a.at (natural (first_of (rest_of a.args))) (saturated_u32 (natural (first_of a.args))) w)
 served_by_fine program a (Some Printk) w = none_fine (happened.Log a.bytes) w refl
 served_by_fine program a (Some RequestIrq) w = moved_to (ap (λ v. requested w.kept.handler v (plainly w)) (first_spun a.args)) (requested_fine w.kept.handler (first_of a.args) w)
 served_by_fine program a (Some FreeIrq) w = record { is = refl; rest = refl }

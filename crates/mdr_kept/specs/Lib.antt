@@ -2,3 +2,11 @@ pub mod Alike
 pub mod Strict
 pub mod Laws
 pub mod Worked
+pub mod Scopes
+pub mod Current
+pub mod Plain
+pub mod Named
+pub mod Bodies
+pub mod ScopedSources
+pub mod ReportLaws
+pub mod KeptSources

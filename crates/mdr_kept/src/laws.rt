@@ -1,4 +1,4 @@
-// Laws, each as a function that does nothing.
+// Laws of strict runs, each as a function that does nothing.
 
 ghost use Rattle.mdr_kept.specs.Laws.{LocksAreHeld, StrictOutcomesAgree, StrictReportsAgree, StrictRunsAreFollowed, StrictRunsArePlain};
 

@@ -1,14 +1,16 @@
 // The cells that user code may touch.
 
-ghost use Rattle.std.specs.Prelude.{◌≡◌, ◌++◌, ◌∷◌, List, IfOk, OnOk};
+ghost use Rattle.std.specs.Prelude.{◌≡◌, ◌<◌, ◌++◌, ◌∷◌, List, IfOk, OnErr, OnOk};
 ghost use Rattle.mdr_cells.specs.Names.{cell_of, named};
+ghost use Rattle.mdr_core.specs.declared.memory_error.Limit.TheVariants as limit;
+ghost use Rattle.mdr_core.specs.Limits.{most};
 ghost use Rattle.mdr_model.specs.Memory.{is_live};
 ghost use Rattle.mdr_model.specs.declared.memory.Cell.{Cell};
 ghost use Rattle.mdr_watched.specs.Views.{living};
 
 use mdr_cells::{CellName, CellSet};
 use mdr_copy::CellList;
-use mdr_core::{Items, OutOfMemory};
+use mdr_core::{Items, Limit, OutOfMemory, within};
 use mdr_model::Cell;
 use mdr_world::World;
 use std::alloc::Global;
@@ -21,17 +23,16 @@ fn lives(world: &World, serial: u64) -> bool
     world.born_at(serial).is_some()
 }
 
-/// The cell with a name. One past what an index can be answers want of memory.
+/// The cell with a name. One behind more cells than can be counted answers want of memory.
 fn cell_named(name: CellName) -> Result<Cell, OutOfMemory>
-    ensures { IfOk result (λ c. c ≡ cell_of name) }
+    ensures named { IfOk result (λ c. c ≡ cell_of name) }
+    ensures large { OnErr result (most limit.Cells < name.index) }
 {
-    match u32::try_from(name.index) {
-        Ok(index) => Ok(Cell {
-            serial: name.serial,
-            index,
-        }),
-        Err(_) => Err(OutOfMemory::unmet()),
-    }
+    within(name.index, Limit::Cells)?;
+    Ok(Cell {
+        serial: name.serial,
+        index: name.index as u32,
+    })
 }
 
 /// Adds a cell.

@@ -13,7 +13,7 @@ use Rattle.mdr_meaning.specs.declared.wire.Wire.{Wire}
 use Rattle.mdr_meaning.specs.declared.wire.Wire.TheVariants as wire
 use Rattle.mdr_meaning.specs.Bodies.{started}
 use Rattle.mdr_meaning.specs.Tree.{Asked, Tree}
-use Rattle.mdr_meaning.specs.Values.{first_of, natural, rest_of}
+use Rattle.mdr_meaning.specs.Values.{first_of, natural, rest_of, saturated_u32}
 use Rattle.mdr_model.specs.declared.memory.Cell.{Cell}
 use Rattle.mdr_model.specs.declared.message.BirthKind.{BirthKind}
 use Rattle.mdr_model.specs.declared.message.BirthKind.TheVariants.{Heap, Auto}
@@ -140,7 +140,7 @@ module _ (first : World) where
   served_by_leads program a (Some Kcalloc) w e = allocated_leads program a.shapes (asked_once_more w) e
   served_by_leads program a (Some Kfree) w e = freed_leads program a.at (first_of a.args) w e
   served_by_leads program a (Some Readl) w e = read_leads a.at (natural (first_of a.args)) w e
-  served_by_leads program a (Some Writel) w e = written_leads a.at (natural (first_of (rest_of a.args))) (natural (first_of a.args)) w e
+  served_by_leads program a (Some Writel) w e = written_leads a.at (natural (first_of (rest_of a.args))) (saturated_u32 (natural (first_of a.args))) w e
   served_by_leads program a (Some Printk) w e = so e
   served_by_leads program a (Some RequestIrq) w e = requested_leads w.kept.handler (first_of a.args) w e
   served_by_leads program a (Some FreeIrq) w e = so e

@@ -1,65 +1,92 @@
 // How deep lowered statements nest: a `switch` by as many levels as it has clauses.
 
-use mdr_core::Items;
+ghost use Rattle.std.specs.Prelude.{◌≡◌, ◌<◌, ◌≤◌, OnOk, OnErr, suc, map, min};
+ghost use Rattle.mdr_core.specs.Limits.{most};
+ghost use Rattle.mdr_core.specs.declared.memory_error.Limit.TheVariants as limit;
+ghost use Rattle.mdr_lower.specs.Levels.{tried, step_levels, clause_levels, levels};
+
+use mdr_core::{Items, Limit, OutOfMemory, most, within};
 use mdr_rich::{Clause, Step, Stmt};
 
-/// So many levels at most. What walks over statements of this depth needs less than half of the program's stack.
-pub const DEEPEST: usize = 1000;
-
-/// Whether the clauses and their labels have room for all the levels that they take.
 #[cycle(nesting)]
-fn clauses_nest(clauses: &[Clause], room: usize) -> bool {
-    for i in 0..clauses.len() {
-        if i >= room || clauses[i].labels.len() > room - i {
-            return false;
+fn clause_levels(clause: &Clause, room: u64) -> u64
+    ensures { result ≡ min (clause_levels clause.now) room }
+{
+    let labels = room.min(clause.labels.len() as u64);
+    labels.max(part_levels(&clause.body, room))
+}
+
+/// The clauses of a `switch`, and the body of its `default`.
+#[cycle(nesting)]
+fn tried_levels(clauses: &[Clause], default: &Items<Stmt>, room: u64) -> u64
+    ensures { result ≡ min (tried (map clause_levels clauses.now) (suc (levels default.now))) room }
+{
+    let mut most = 0;
+    let mut left = room;
+    for clause in clauses {
+        if left == 0 {
+            return room;
         }
-        if !nests(clauses[i].body.as_slice(), room - i - 1) {
-            return false;
-        }
+        most = most.max(room - left + clause_levels(clause, left));
+        left -= 1;
     }
-    true
+    most.max(room - left + part_levels(default, left))
 }
 
 #[cycle(nesting)]
-fn part_nests(part: &Items<Stmt>, room: usize) -> bool {
-    room > 0 && nests(part.as_slice(), room - 1)
+fn part_levels(part: &Items<Stmt>, room: u64) -> u64
+    ensures { result ≡ min (suc (levels part.now)) room }
+{
+    if room == 0 {
+        0
+    } else {
+        levels(part.as_slice(), room - 1) + 1
+    }
 }
 
 #[cycle(nesting)]
-fn step_nests(s: &Step, room: usize) -> bool {
+fn step_levels(s: &Step, room: u64) -> u64
+    ensures { result ≡ min (step_levels s.now) room }
+{
     match s {
-        Step::Declare(_) => true,
-        Step::Text(_, _) => true,
-        Step::Assign(_, _) => true,
-        Step::Call(_, _) => true,
-        Step::If(_, one, other) => part_nests(one, room) && part_nests(other, room),
-        Step::While(_, body) => part_nests(body, room),
+        Step::Declare(_) => 0,
+        Step::Text(_, _) => 0,
+        Step::Assign(_, _) => 0,
+        Step::Call(_, _) => 0,
+        Step::If(_, one, other) => part_levels(one, room).max(part_levels(other, room)),
+        Step::While(_, body) => part_levels(body, room),
         Step::For(init, _, next, body) => {
-            part_nests(init, room) && part_nests(next, room) && part_nests(body, room)
+            let inner = part_levels(next, room).max(part_levels(body, room));
+            part_levels(init, room).max(inner)
         }
-        Step::Do(body, _) => part_nests(body, room),
-        Step::Switch(_, clauses, default) => {
-            let count = clauses.len();
-            count < room
-                && clauses_nest(clauses.as_slice(), room)
-                && nests(default.as_slice(), room - count - 1)
-        }
-        Step::Return(_) => true,
-        Step::ReturnCall(_) => true,
-        Step::Break => true,
-        Step::Continue => true,
-        Step::Empty => true,
-        Step::Block(body) => part_nests(body, room),
+        Step::Do(body, _) => part_levels(body, room),
+        Step::Switch(_, clauses, default) => tried_levels(clauses.as_slice(), default, room),
+        Step::Return(_) => 0,
+        Step::ReturnCall(_) => 0,
+        Step::Break => 0,
+        Step::Continue => 0,
+        Step::Empty => 0,
+        Step::Block(body) => part_levels(body, room),
     }
 }
 
-/// Whether the statements nest no deeper than this.
+/// The levels of statements, or `room` where there are more: the walk goes no deeper than that.
 #[cycle(nesting)]
-pub fn nests(statements: &[Stmt], room: usize) -> bool {
+fn levels(statements: &[Stmt], room: u64) -> u64
+    ensures { result ≡ min (levels statements.now) room }
+{
+    let mut most = 0;
     for s in statements {
-        if !step_nests(&s.step, room) {
-            return false;
-        }
+        most = most.max(step_levels(&s.step, room));
     }
-    true
+    most
+}
+
+/// The statements have so few levels that what walks over them needs less than half of the program's stack. Memory is
+/// wanting exactly where they have more.
+pub fn few_levels(statements: &[Stmt]) -> Result<(), OutOfMemory>
+    ensures ok { OnOk result (levels statements.now ≤ most limit.Levels) }
+    ensures err { OnErr result (most limit.Levels < levels statements.now) }
+{
+    within(levels(statements, most(Limit::Levels) + 1), Limit::Levels)
 }

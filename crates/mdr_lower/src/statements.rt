@@ -1,16 +1,21 @@
 // Statements, lowered.
 
-ghost use Rattle.std.specs.Prelude.{◌≡◌, [], map, IfOk, OnOk};
+ghost use Rattle.std.specs.Prelude.{◌≡◌, ◌≤◌, [], map, IfOk, OnOk};
+ghost use Rattle.mdr_core.specs.Limits.{most};
 ghost use Rattle.mdr_core.specs.declared.code.Step.TheVariants as step;
+ghost use Rattle.mdr_core.specs.declared.memory_error.Limit.TheVariants as limit;
 ghost use Rattle.mdr_rich.specs.Carried.{type_of};
 ghost use Rattle.mdr_rich.specs.Folds.{term_of};
 ghost use Rattle.mdr_lower.specs.Apart.{apart, arm, arms, outside};
-ghost use Rattle.mdr_lower.specs.Lowering.{put, done, mapped, inside, kept, within, run, low, expr_lowered, place_lowered, target_lowered, perhaps_lowered, assigned, call_made, call_lowered, again, blocked, turn, done_while, step_lowered, clause_lowered, stmt_lowered, lowered};
+ghost use Rattle.mdr_lower.specs.Levels.{levels};
+ghost use Rattle.mdr_lower.specs.Lowering.{put, done, mapped, inside, kept, within, run, low, again, blocked, turn, done_while};
+ghost use Rattle.mdr_lower.specs.Lowering.{expr_lowered, place_lowered, target_lowered, perhaps_lowered, assigned};
+ghost use Rattle.mdr_lower.specs.Lowering.{call_made, call_lowered, step_lowered, clause_lowered, stmt_lowered, lowered};
 
 use crate::arms::{Arm, labelled, put_arms};
 use crate::calls::lowered_call;
 use crate::expressions::{boxed, low, low_part, low_place};
-use crate::nesting::{DEEPEST, nests};
+use crate::nesting::few_levels;
 use crate::parts::part_kept;
 use crate::release::{left_over, let_go};
 use crate::turns::{again_apart, always, put_for, test_apart, tested, tested_again};
@@ -384,11 +389,10 @@ fn put_list(alloc: Global, statements: &[Stmt], work: &mut Work) -> Result<(), A
 
 /// The statements of a body as those of a program, where the first new slot has this number.
 pub fn lowered(alloc: Global, next: u32, statements: &[Stmt]) -> Result<Work, AllocError>
-    ensures { IfOk result (λ w. w ≡ lowered next statements.now) }
+    ensures told { IfOk result (λ w. w ≡ lowered next statements.now) }
+    ensures few { OnOk result (levels statements.now ≤ most limit.Levels) }
 {
-    if !nests(statements, DEEPEST) {
-        return Err(AllocError);
-    }
+    few_levels(statements)?;
     let mut work = begun(alloc, next);
     match put_list(alloc, statements, &mut work) {
         Ok(()) => Ok(work),

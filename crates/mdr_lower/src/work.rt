@@ -5,7 +5,7 @@ ghost use Rattle.mdr_lower.specs.Lowering.{begun, new_slot, with_slot, put, insi
 ghost use Rattle.mdr_lower.specs.Apart.{outside};
 
 use crate::release::left_over;
-use mdr_core::{Expr, Items, Local, Lval, Step, Stmt, Ty};
+use mdr_core::{Expr, Items, Limit, Local, Lval, Step, Stmt, Ty, below};
 use std::alloc::{AllocError, Global};
 use std::mem;
 
@@ -53,9 +53,7 @@ pub fn with_slot(alloc: Global, ty: Ty, work: &mut Work) -> Result<u32, AllocErr
     ensures grown { OnOk result (work.new ≡ with_slot ty work.old) }
 {
     let slot = work.next;
-    if slot == u32::MAX {
-        return Err(AllocError);
-    }
+    below(slot as u64, Limit::Fields)?;
     work.slots.push(new_slot(alloc, ty))?;
     work.next = slot + 1;
     Ok(slot)

@@ -183,8 +183,8 @@ module _ (R : ℕ → Tree → Tree → Type 0) (c : IsCongruence R) where
   texts_alike r at kind p i (b ∷ bs) t u h = c.store r at (element p i) (wire.Int kind (converted kind (pos b))) _ _ (texts_alike r at kind p (suc i) bs t u h)
 
   -- what comes next is alike for so many ticks and for fewer
-  record Soon (r : ℕ) (k l : Wire → Tree) : Type 0 where
-    by : (q : ℕ) → q ≤ r → (v : Wire) → R q (k v) (l v)
+  pub record Soon (r : ℕ) (k l : Wire → Tree) : Type 0 where
+    pub by : (q : ℕ) → q ≤ r → (v : Wire) → R q (k v) (l v)
 
   pub record AreNext (r : ℕ) (k k' : Next) : Type 0 where
     pub by : (q : ℕ) → q ≤ r → (flow : Flow) (l : Locals) → R q (k flow l) (k' flow l)
@@ -196,13 +196,13 @@ module _ (R : ℕ → Tree → Tree → Type 0) (c : IsCongruence R) where
   pub record AreLater (r : ℕ) (low low' : Means) : Type 0 where
     pub by : (here : Here) (cs : Codes) → Go_alike r (low here cs) (low' here cs)
 
-  next_fewer : {r : ℕ} {k k' : Next} (q : ℕ) → q ≤ r → AreNext r k k' → AreNext q k k'
+  pub next_fewer : {r : ℕ} {k k' : Next} (q : ℕ) → q ≤ r → AreNext r k k' → AreNext q k k'
   next_fewer q fewer a = record { by = λ p h. a.by p (omega (arith, h, fewer)) }
 
   later_fewer : {r : ℕ} {low low' : Means} (q : ℕ) → q ≤ r → AreLater r low low' → AreLater q low low'
   later_fewer q fewer a = record { by = λ here cs. record { by = λ p h. (a.by here cs).by p (omega (arith, h, fewer)) } }
 
-  go_fewer : {r : ℕ} {go go' : Go} (q : ℕ) → q ≤ r → Go_alike r go go' → Go_alike q go go'
+  pub go_fewer : {r : ℕ} {go go' : Go} (q : ℕ) → q ≤ r → Go_alike r go go' → Go_alike q go go'
   go_fewer q fewer a = record { by = λ p h. a.by p (omega (arith, h, fewer)) }
 
   pick_alike : (r : ℕ) (b : Bool) {f g f' g' : Go} → Go_alike r f f' → Go_alike r g g' → Go_alike r (chosen b f g) (chosen b f' g')
@@ -212,7 +212,7 @@ module _ (R : ℕ → Tree → Tree → Type 0) (c : IsCongruence R) where
   leaves_alike : (r : ℕ) → Go_alike r leaves leaves
   leaves_alike r = record { by = λ q fewer l k k' h. h.by q (le_refl q) Ends l }
 
-  keep_alike : (r : ℕ) (known : Numbered) (here : Here) (at : At) (goal : Goal) (v : Wire) → Go_alike r (keep known here at goal v) (keep known here at goal v)
+  pub keep_alike : (r : ℕ) (known : Numbered) (here : Here) (at : At) (goal : Goal) (v : Wire) → Go_alike r (keep known here at goal v) (keep known here at goal v)
   keep_alike r known here at Goal.Nowhere v = leaves_alike r
   keep_alike r known here at (Goal.Into p) v = record {
     by = λ q fewer l k k' h. (keeps_given q Wire at (received known (named_type known.program here.slots p) v)).by _ _
@@ -220,7 +220,7 @@ module _ (R : ℕ → Tree → Tree → Type 0) (c : IsCongruence R) where
   }
   keep_alike r known here at Goal.Back v = record { by = λ q fewer l k k' h. (keeps_given q Wire at (received known (Some here.result) v)).by _ _ (record { at = λ x. h.by q (le_refl q) (Returns x) l }) }
 
-  on_ends_alike : {r : ℕ} {go go' : Go} {k k' : Next} → Go_alike r go go' → AreNext r k k' → AreNext r (on_ends go k) (on_ends go' k')
+  pub on_ends_alike : {r : ℕ} {go go' : Go} {k k' : Next} → Go_alike r go go' → AreNext r k k' → AreNext r (on_ends go k) (on_ends go' k')
   on_ends_alike {r = r} {go = go} {go' = go'} {k = k} {k' = k'} a h = record { by = at } where
     at : (q : ℕ) → q ≤ r → (flow : Flow) (l : Locals) → R q (on_ends go k flow l) (on_ends go' k' flow l)
     at q fewer Ends l = a.by q fewer l k k' (next_fewer q fewer h)
@@ -228,7 +228,7 @@ module _ (R : ℕ → Tree → Tree → Type 0) (c : IsCongruence R) where
     at q fewer Continues l = h.by q fewer Continues l
     at q fewer (Returns v) l = h.by q fewer (Returns v) l
 
-  around_alike : {r : ℕ} {again again' step step' : Go} {k k' : Next} → Go_alike r again again' → Go_alike r step step' → AreNext r k k' → AreNext r (around again step k) (around again' step' k')
+  pub around_alike : {r : ℕ} {again again' step step' : Go} {k k' : Next} → Go_alike r again again' → Go_alike r step step' → AreNext r k k' → AreNext r (around again step k) (around again' step' k')
   around_alike {r = r} {again = again} {again' = again'} {step = step} {step' = step'} {k = k} {k' = k'} a b h = record { by = at } where
     at : (q : ℕ) → q ≤ r → (flow : Flow) (l : Locals) → R q (around again step k flow l) (around again' step' k' flow l)
     at q fewer Ends l = b.by q fewer l (on_ends again k) (on_ends again' k') (next_fewer q fewer (on_ends_alike a h))
@@ -249,7 +249,7 @@ module _ (R : ℕ → Tree → Tree → Type 0) (c : IsCongruence R) where
     deaths_alike r here [] t u h = h
     deaths_alike r here (p ∷ ps) t u h = deaths_by_alike r side.asks (in_here here 0) (p ∷ ps) t u h
 
-    ends_alike : {r : ℕ} {k k' : Next} (here : Here) (outer : List Wire) → AreNext r k k' → AreNext r (ends side here outer k) (ends side here outer k')
+    pub ends_alike : {r : ℕ} {k k' : Next} (here : Here) (outer : List Wire) → AreNext r k k' → AreNext r (ends side here outer k) (ends side here outer k')
     ends_alike {r = r} {k = k} {k' = k'} here outer h = record { by = at } where
       dies : (q : ℕ) → q ≤ r → (flow : Flow) (l : Locals)
           → R q (deaths side here l.born (k flow (record { slots = l.slots; born = outer }))) (deaths side here l.born (k' flow (record { slots = l.slots; born = outer })))
@@ -266,7 +266,7 @@ module _ (R : ℕ → Tree → Tree → Type 0) (c : IsCongruence R) where
       by = λ q fewer l k k' h. a.by q fewer (record { slots = l.slots; born = [] }) (ends side here l.born k) (ends side here l.born k') (ends_alike here l.born h);
     }
 
-    closes_alike : {r : ℕ} {k k' : Wire → Tree} (here : Here) → Soon r k k' → AreNext r (closes side here k) (closes side here k')
+    pub closes_alike : {r : ℕ} {k k' : Wire → Tree} (here : Here) → Soon r k k' → AreNext r (closes side here k) (closes side here k')
     closes_alike here h = record { by = λ q fewer flow l. deaths_alike q here l.born _ _ (h.by q fewer (after_deaths l.born (returned flow))) }
 
     declared_by_alike : (r : ℕ) (low low' : Means) (here : Here) (object : Bool) (i : ℕ) (s : Slot) → Go_alike r (declared_by side low here object i s) (declared_by side low' here object i s)

@@ -1,6 +1,8 @@
 // Small bodies worked out, each as a function that does nothing.
 
-ghost use Rattle.mdr_meaning.specs.Worked.{CountsDown, Sums, Renews, Overflows, Divides, FillsObject, AsksForObject, BreaksOut, ReturnsOut, Dangles, GivesOwn, GivesOuter, GivesOthers, FillsText, Allocates, Calls, Narrows, Deepens, MakesRing, WalksRing, TakesNode, LosesNode, KeepsToken, AddsFour, AddsFive};
+ghost use Rattle.mdr_meaning.specs.Worked.{CountsDown, Sums, Renews, Overflows, Divides, FillsObject, AsksForObject, BreaksOut, ReturnsOut};
+ghost use Rattle.mdr_meaning.specs.Worked.{Dangles, GivesOwn, GivesOuter, GivesOthers, FillsText, Allocates, Calls, Narrows, Deepens};
+ghost use Rattle.mdr_meaning.specs.Worked.{MakesRing, WalksRing, TakesNode, LosesNode, KeepsToken, AddsFour, AddsFive};
 ghost use Rattle.mdr_meaning.specs.WorkedStops.{StopsHavePlaces, PartsHaveAnOrder, ServicesAreAsked};
 
 /// Loops take a tick for each test, `continue` goes to the step, and a slot is zero each time it is declared.

@@ -1,6 +1,7 @@
 // The rows of the plain memory.
 
-ghost use Rattle.std.specs.Prelude.{◌≡◌, ◌<◌, ◌≤◌, ◌+◌, ◌++◌, [], ◌∷◌, length, map, IsTrue, IsSome, IfOk, OnOk, OnErr, vec_capacity, slice_get, slice_set, Some, None, option_copied, option_map, ℕ, ◌^◌, ◌-◌};
+ghost use Rattle.std.specs.Prelude.{◌≡◌, ◌<◌, ◌≤◌, ◌+◌, ◌++◌, [], ◌∷◌, length, map, IsTrue, IsSome, IfOk};
+ghost use Rattle.std.specs.Prelude.{OnOk, OnErr, vec_capacity, slice_get, slice_set, Some, None, option_copied, option_map, ℕ, ◌^◌, ◌-◌};
 ghost use Rattle.mdr_model.specs.Memory.{cell_at, born_at};
 ghost use Rattle.mdr_meaning.specs.Values.{wire_of};
 ghost use Rattle.mdr_mem.specs.Contents.{is_handle, handle_of, cell_in, current, births_in, after_birth, after_death, after_store, shape_of, kind_of, IsInOrder, with_block, wire_in};

@@ -1,27 +1,13 @@
-// Integers: those of a kind, and numbers of four and of eight bytes.
+// Numbers of four and of eight bytes.
 
-ghost use Rattle.std.specs.Prelude.{◌≡◌, IsTrue, IfOk};
-ghost use Rattle.mdr_core.specs.Kinds.{is_in_range};
-ghost use Rattle.mdr_model.specs.Xdr.{item_at, four_at, eight_at};
-ghost use Rattle.mdr_msg.specs.Decoding.{Gives};
+ghost use Rattle.std.specs.Prelude.{◌≡◌};
+ghost use Rattle.mdr_model.specs.Xdr.{four_at, eight_at};
 
 use crate::error::MsgError;
 use crate::item::Item;
 use mdr_core::{Kind, OutOfMemory};
 use mdr_xdr::Cursor;
 use std::alloc::Global;
-
-/// Reads a number of a kind.
-#[tactic(auto, using(crate::proofs::Unsigned::fails_from))]
-pub fn get_integer(kind: Kind, bytes: &[u8], c: &mut Cursor) -> Result<i128, MsgError>
-    ensures read { Gives bytes.now c.old.at c.new.at result (item_at kind) }
-    ensures in_range { IfOk result (λ n. IsTrue (is_in_range kind n)) }
-{
-    match mdr_xdr::get(kind, bytes, c) {
-        Ok(n) => Ok(n),
-        Err(e) => Err(MsgError::from(e)),
-    }
-}
 
 impl Item for u32 {
     ghost use Rattle.mdr_model.specs.Xdr.{four};
@@ -43,7 +29,7 @@ impl Item for u32 {
 
     #[tactic(auto, unfolding(mdr_core::specs::Kinds::is_in_range))]
     fn get(_alloc: Global, bytes: &[u8], c: &mut Cursor) -> Result<u32, MsgError> {
-        let n = get_integer(Kind::U32, bytes, c)?;
+        let n = mdr_xdr::get(Kind::U32, bytes, c)?;
         Ok(n as u32)
     }
 }
@@ -68,7 +54,7 @@ impl Item for u64 {
 
     #[tactic(auto, unfolding(mdr_core::specs::Kinds::is_in_range))]
     fn get(_alloc: Global, bytes: &[u8], c: &mut Cursor) -> Result<u64, MsgError> {
-        let n = get_integer(Kind::U64, bytes, c)?;
+        let n = mdr_xdr::get(Kind::U64, bytes, c)?;
         Ok(n as u64)
     }
 }

@@ -5,7 +5,6 @@ ghost use Rattle.mdr_model.specs.Reading.{kinds, tagged_at};
 ghost use Rattle.mdr_msg.specs.Decoding.{Gives};
 
 use crate::error::MsgError;
-use crate::integers::get_integer;
 use crate::item::Item;
 use mdr_core::{Kind, OutOfMemory};
 use mdr_model::{Wire, WireView};
@@ -68,7 +67,7 @@ fn kind_of(tag: u32) -> Option<Kind>
 }
 
 /// Reads what follows a tag, which stands at an offset.
-#[tactic(auto, unfolding(mdr_model::specs::Reading::tagged_at))]
+#[tactic(auto, unfolding(mdr_model::specs::Reading::tagged_at), using(crate::proofs::Unsigned::fails_from))]
 fn get_tagged(
     alloc: Global,
     tag: u32,
@@ -85,7 +84,7 @@ fn get_tagged(
         11 => Ok(Wire::Fn(u32::get(alloc, bytes, c)?)),
         12 => Ok(Wire::NoValue),
         _ => match kind_of(tag) {
-            Some(kind) => Ok(Wire::Int(kind, get_integer(kind, bytes, c)?)),
+            Some(kind) => Ok(Wire::Int(kind, mdr_xdr::get(kind, bytes, c)?)),
             None => Err(MsgError::Kind(at)),
         },
     }

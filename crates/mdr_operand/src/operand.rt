@@ -4,7 +4,8 @@ ghost use Rattle.std.specs.Prelude.{◌≡◌, IfOk, pos};
 ghost use Rattle.std.specs.Option.{option_map};
 ghost use Rattle.mdr_rich.specs.declared.code.Expr.{Expr};
 ghost use Rattle.mdr_faults.specs.Faults.{told};
-ghost use Rattle.mdr_operand.specs.Forms.{scalar_of, value_of, expression_of, needed, value_at, scalar_at, integer_by, integer_at, at_kind, number, truth, literal, condition_at, pointer_by, pointer_at};
+ghost use Rattle.mdr_operand.specs.Forms.{scalar_of, value_of, expression_of, needed, value_at, scalar_at, integer_by, integer_at};
+ghost use Rattle.mdr_operand.specs.Forms.{at_kind, number, truth, literal, condition_at, pointer_by, pointer_at};
 
 use crate::release::{nothing, out_of_memory};
 use mdr_core::{Boxed, Items, Kind, Place, Ty, Value};

@@ -1,13 +1,14 @@
 // Functions (C99 6.9.1).
 
-ghost use Rattle.std.specs.Prelude.{◌≡◌, ◌<◌, ◌≤◌, length, IfOk, IfErr, Err, true, false};
+ghost use Rattle.std.specs.Prelude.{◌≡◌, ◌<◌, ◌≤◌, length, IfOk, IfErr, true, false};
 ghost use Rattle.mdr_syntax.specs.declared.tree.ItemWhat.TheVariants as item_is;
 ghost use Rattle.mdr_grammar.specs.Forms.Nonterminal.{function_end as an_end};
 ghost use Rattle.mdr_grammar.specs.Front.{and_read, first, front};
-ghost use Rattle.mdr_grammar.specs.Statements.{item_at, items_in, function_body as body_in, function_head as head_in, function_with as with_body, are_named as all_named, critical_there as there_critical};
+ghost use Rattle.mdr_grammar.specs.Statements.{item_at, items_in, function_body as body_in, function_head as head_in};
+ghost use Rattle.mdr_grammar.specs.Statements.{function_with as with_body, are_named as all_named, critical_there as there_critical};
 ghost use Rattle.mdr_parse.specs.Outside.{body_end, function_item, critical_end};
 ghost use Rattle.mdr_reader.specs.Gives.{Gives};
-ghost use Rattle.mdr_reader.specs.declared.failure.Failure.TheVariants.{Memory};
+ghost use Rattle.mdr_reader.specs.declared.failure.Failure.TheVariants.{Memory, Fault};
 
 use crate::heads::{function_head, prototype};
 use mdr_core::{Items, Place};
@@ -99,11 +100,10 @@ fn are_named(params: &[Decl]) -> bool
 }
 
 /// A head behind which the first token can't stand.
-fn refused(tokens: &[Token], _head: Head) -> Result<(Items<Item>, &[Token]), Failure>
-    ensures reads { Gives (λ x. x.0) (λ x. x.1.now) result (Err (length tokens.now)) }
-    ensures shorter { IfOk result (λ x. length x.1.now < length tokens.now) }
+fn refused(tokens: &[Token], _head: Head) -> Failure
+    ensures { result ≡ Fault (length tokens.now) }
 {
-    Err(Failure::Fault(tokens.len()))
+    Failure::Fault(tokens.len())
 }
 
 /// What stands behind a head: a semicolon or a body.
@@ -117,7 +117,7 @@ fn function_end(
     ensures shorter { IfOk result (λ x. length x.1.now < length tokens.now) }
 {
     let Some((sort, _, rest)) = split(reader.halves, tokens) else {
-        return refused(tokens, head);
+        return Err(refused(tokens, head));
     };
     match sort {
         Sort::Semicolon => Ok((prototype(reader, place, head, false)?, rest)),
@@ -125,10 +125,10 @@ fn function_end(
             if are_named(head.params.as_slice()) {
                 function_with(reader, rest, place, head, false)
             } else {
-                refused(tokens, head)
+                Err(refused(tokens, head))
             }
         }
-        _ => refused(tokens, head),
+        _ => Err(refused(tokens, head)),
     }
 }
 
@@ -165,7 +165,7 @@ fn critical_head<'t>(
         Ok((_, rest)) => function_with(reader, rest, place, head, true),
         Err(e) => {
             drop(head);
-            Err(e)
+            Err(Failure::from(e))
         }
     }
 }

@@ -102,7 +102,7 @@ fn remote_head<'t>(
         Ok((_, rest)) => Ok((prototype(reader, place, head, true)?, rest)),
         Err(e) => {
             drop(head);
-            Err(e)
+            Err(Failure::from(e))
         }
     }
 }

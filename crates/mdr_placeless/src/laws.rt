@@ -1,6 +1,7 @@
 // Laws of what a source comes to, each the contract of a function that does nothing.
 
-ghost use Rattle.mdr_placeless.specs.Laws.{BodiesLookAtNoPlace, DeclarationsLookAtNoPlace, ExpressionsLookAtNoPlace, FilesLookAtNoPlace, HalvesLookAtNoPlace, HeadingsLookAtNoPlace, ProgramsLookAtNoPlace};
+ghost use Rattle.mdr_placeless.specs.Laws.{BodiesLookAtNoPlace, DeclarationsLookAtNoPlace, ExpressionsLookAtNoPlace, FilesLookAtNoPlace};
+ghost use Rattle.mdr_placeless.specs.Laws.{HalvesLookAtNoPlace, HeadingsLookAtNoPlace, ProgramsLookAtNoPlace};
 
 /// Expressions that are equal, places aside, come to the same in each scope, or there are faults in both.
 pub fn expressions_look_at_no_place()

@@ -16,7 +16,7 @@ use Rattle.mdr_meaning.specs.declared.wire.Wire.TheVariants as wire
 use Rattle.mdr_meaning.specs.declared.wire.WireView.{WireView}
 use Rattle.mdr_meaning.specs.Pointers.{position, size}
 use Rattle.mdr_meaning.specs.Tree.{Asked}
-use Rattle.mdr_meaning.specs.Values.{first_of, natural, rest_of}
+use Rattle.mdr_meaning.specs.Values.{first_of, natural, rest_of, saturated_u32}
 use Rattle.mdr_meaning.specs.Walk.{Born}
 use Rattle.mdr_model.specs.declared.message.BirthKind.{BirthKind}
 use Rattle.mdr_model.specs.declared.message.BirthKind.TheVariants.{Static, Heap, Auto}
@@ -127,7 +127,7 @@ module _ (program : Program) (a : Asked) where
   served_by (Some Kcalloc) w = allocated program a.shapes (asked_once_more w)
   served_by (Some Kfree) w = freed program a.at (first_of a.args) w
   served_by (Some Readl) w = register_read a.at (natural (first_of a.args)) w
-  served_by (Some Writel) w = register_written a.at (natural (first_of (rest_of a.args))) (natural (first_of a.args)) w
+  served_by (Some Writel) w = register_written a.at (natural (first_of (rest_of a.args))) (saturated_u32 (natural (first_of a.args))) w
   served_by (Some Printk) w = gives_none (noted (happened.Log a.bytes) w)
   served_by (Some RequestIrq) w = requested w.kept.handler (first_of a.args) w
   served_by (Some FreeIrq) w = gives_none (with_handler None w)

@@ -1,6 +1,6 @@
 -- believed
 -- What code does to memory: accesses, births and deaths (C99 6.2.4).
-use Rattle.std.specs.Prelude.{ℕ, suc, ◌+◌, Bool, not, filter, List, [], ◌∷◌, ◌++◌, map, length, Option, Some, None, Result, Ok, Err, ◌==◌, nat_le}
+use Rattle.std.specs.Prelude.{ℕ, suc, ◌+◌, min, Bool, not, filter, List, [], ◌∷◌, ◌++◌, map, length, Option, Some, None, Result, Ok, Err, ◌==◌, nat_le}
 use Rattle.std.specs.List.{list_all}
 use Rattle.mdr_core.specs.declared.program.GlobalDef.{GlobalDef}
 use Rattle.mdr_core.specs.declared.program.Program.{Program}
@@ -31,9 +31,13 @@ use Rattle.mdr_plain.specs.World.{World}
 abbrev pub cells_read : WireView → ℕ → List Cell
 cells_read p n = cells_from p.serial (p.first + p.index) n
 
+-- a number as one of 8 bits: the greatest of these where it is greater, which no byte of a sound program is
+abbrev pub saturated_u8 : ℕ → ℕ
+saturated_u8 n = min n 255
+
 abbrev pub number_in : Option Wire → ℕ
 number_in None = 0
-number_in (Some v) = natural v
+number_in (Some v) = saturated_u8 (natural v)
 
 abbrev pub byte_at : Memory → Cell → ℕ
 byte_at m c = number_in (cell_at m c)

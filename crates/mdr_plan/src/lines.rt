@@ -6,7 +6,8 @@ ghost use Rattle.std.specs.Option.{option_map};
 ghost use Rattle.mdr_plan.specs.Front.{strip};
 ghost use Rattle.mdr_plan.specs.Gives.{Gives, Finds};
 ghost use Rattle.mdr_plan.specs.Lines.{begins, takes_types, takes_functions, takes_downs, takes_ups, takes_keys, ends, first_text, is_kernel, is_user_half, is_next_user, is_after, is_there, Reads};
-ghost use Rattle.mdr_plan.specs.LineReading.{behind_number, or_else, place_of, heading_at, end_at, first_at, struct_at, pointer_at, type_line_at, function_line_at, down_line_at, up_line_at, key_line_at, stub_at, line_at};
+ghost use Rattle.mdr_plan.specs.LineReading.{behind_number, or_else, place_of, heading_at, end_at, first_at, struct_at, pointer_at};
+ghost use Rattle.mdr_plan.specs.LineReading.{type_line_at, function_line_at, down_line_at, up_line_at, key_line_at, stub_at, line_at};
 ghost use Rattle.mdr_plan.specs.Naming.{is_new, struct_number};
 ghost use Rattle.mdr_core.specs.TypeText.{is_before};
 

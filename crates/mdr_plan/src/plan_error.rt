@@ -1,8 +1,9 @@
 // Why bytes are no plan's text.
 
 ghost use Rattle.std.specs.Prelude.{◌≡◌};
-ghost use Rattle.mdr_plan.specs.declared.plan_error.PlanError.TheVariants.{OutOfMemory};
+ghost use Rattle.mdr_plan.specs.declared.plan_error.PlanError.TheVariants.{OutOfMemory as Wanting};
 
+use mdr_core::OutOfMemory;
 use std::alloc::{AllocError, AllocFailed};
 
 /// Why a line is refused.
@@ -25,7 +26,7 @@ pub enum PlanError {
 }
 
 impl From<AllocError> for PlanError {
-    ghost from_gives = { λ _ e. e ≡ OutOfMemory };
+    ghost from_gives = { λ _ e. e ≡ Wanting };
 
     fn from(_e: AllocError) -> PlanError {
         PlanError::OutOfMemory
@@ -33,9 +34,17 @@ impl From<AllocError> for PlanError {
 }
 
 impl<T: Drop> From<AllocFailed<T>> for PlanError {
-    ghost from_gives = { λ _ e. e ≡ OutOfMemory };
+    ghost from_gives = { λ _ e. e ≡ Wanting };
 
     fn from(_e: AllocFailed<T>) -> PlanError {
+        PlanError::OutOfMemory
+    }
+}
+
+impl From<OutOfMemory> for PlanError {
+    ghost from_gives = { λ _ e. e ≡ Wanting };
+
+    fn from(_e: OutOfMemory) -> PlanError {
         PlanError::OutOfMemory
     }
 }

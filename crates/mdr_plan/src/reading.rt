@@ -10,7 +10,7 @@ use crate::plan_error::{PlanError, PlanKind};
 use crate::reader::Reader;
 use crate::standing::refusal;
 use crate::unread::Unread;
-use mdr_core::Plan;
+use mdr_core::{Limit, Plan, within};
 use std::alloc::Global;
 
 fn line_len(bytes: &[u8]) -> usize
@@ -81,9 +81,6 @@ fn read_lines(alloc: Global, bytes: &[u8]) -> Result<Plan, PlanError>
 pub fn read_plan(alloc: Global, bytes: &[u8]) -> Result<Plan, PlanError>
     ensures { Plans bytes.now result }
 {
-    if bytes.len() < u32::MAX as usize {
-        read_lines(alloc, bytes)
-    } else {
-        Err(PlanError::OutOfMemory)
-    }
+    within(bytes.len() as u64, Limit::Bytes)?;
+    read_lines(alloc, bytes)
 }

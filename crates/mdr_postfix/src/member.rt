@@ -5,7 +5,8 @@ ghost use Rattle.std.specs.Option.{option_copied};
 ghost use Rattle.mdr_faults.specs.Faults.{Checked, told};
 ghost use Rattle.mdr_operand.specs.declared.operand.Operand.{Operand};
 ghost use Rattle.mdr_rich.specs.declared.code.Lval.TheVariants as lval;
-ghost use Rattle.mdr_postfix.specs.Members.{object_of, object_at, target, target_located, located, struct_of, struct_entry, member_numbered, member_position, member_among, member_named, member_operand, member_in, member_of, member_rule};
+ghost use Rattle.mdr_postfix.specs.Members.{object_of, object_at, target, target_located, located, struct_of, struct_entry, member_numbered};
+ghost use Rattle.mdr_postfix.specs.Members.{member_position, member_among, member_named, member_operand, member_in, member_of, member_rule};
 
 use crate::located::{Located, given_up, nothing};
 use crate::name::{copied_object, object_operand};

@@ -4,7 +4,8 @@ ghost use Rattle.std.specs.Prelude.{◌≡◌, OnOk, map, codes};
 ghost use Rattle.mdr_syntax.specs.declared.tree.Decl.{out-Decl};
 ghost use Rattle.mdr_print.specs.Marks.{Appends, spell, word, sign, blank, comma_list, in_parentheses, ◌▸◌};
 ghost use Rattle.mdr_print.specs.Types.{stars};
-ghost use Rattle.mdr_print.specs.Declarations.{minus, constant, annotation, annotated, named, sized, parameters, shown_decl, whole_of, core_of, parameter_list, declaration, declarator, head, is_bare, sized_name, const_if, is_lone_void, is_void_base};
+ghost use Rattle.mdr_print.specs.Declarations.{minus, constant, annotation, annotated, named, sized, parameters, shown_decl, whole_of, core_of};
+ghost use Rattle.mdr_print.specs.Declarations.{parameter_list, declaration, declarator, head, is_bare, sized_name, const_if, is_lone_void, is_void_base};
 
 use crate::put::{put_blank, put_blank_unless, put_comma_unless, put_number, put_sign, put_word};
 use crate::types::{put_base, put_stars};

@@ -1,7 +1,8 @@
 // What a text is put together from. Each function appends its marks.
 
 ghost use Rattle.std.specs.Prelude.{◌≡◌, ◌++◌, OnOk, IfOk, codes, decimal};
-ghost use Rattle.mdr_print.specs.Marks.{Appends, word, sign, number, quoted, defined, blank, blank_unless, newline, tabs, spaced, comma, comma_unless, spell, number_text, sign_of, all_escaped, escaped, suffix_of};
+ghost use Rattle.mdr_print.specs.Marks.{Appends, word, sign, number, quoted, defined, blank, blank_unless, newline, tabs};
+ghost use Rattle.mdr_print.specs.Marks.{spaced, comma, comma_unless, spell, number_text, sign_of, all_escaped, escaped, suffix_of};
 
 use mdr_core::Kind;
 use std::alloc::{AllocError, Global};

@@ -4,7 +4,9 @@ ghost use Rattle.std.specs.Prelude.{◌≡◌, ◌+◌, OnOk, IfOk, suc, true, m
 ghost use Rattle.std.specs.Option.{option_map};
 ghost use Rattle.mdr_print.specs.Marks.{Appends, spell, word, sign, blank, newline, row, spaced, ◌▸◌};
 ghost use Rattle.mdr_print.specs.Forms.{form, left_side};
-ghost use Rattle.mdr_print.specs.Statements.{semicolon, line_of, lines, braced, opened, closed, clause_head, assigned, optional, next_part, step_of, head_list, for_test, for_parts, first_of, further_of, words_of, body_of, head_part, block_words, clauses_words, clause_lines, otherwise, returned, label_words, label, at, written, written_what, written_clause};
+ghost use Rattle.mdr_print.specs.Statements.{semicolon, line_of, lines, braced, opened, closed, clause_head, assigned, optional, next_part};
+ghost use Rattle.mdr_print.specs.Statements.{step_of, head_list, for_test, for_parts, first_of, further_of, words_of, body_of, head_part, block_words};
+ghost use Rattle.mdr_print.specs.Statements.{clauses_words, clause_lines, otherwise, returned, label_words, label, at, written, written_what, written_clause};
 
 use crate::declaration::{put_constant, put_declaration, put_declarator};
 use crate::form::{put_form, put_in_parentheses, put_left_side};
@@ -12,7 +14,7 @@ use crate::initialiser::put_equals;
 use crate::put::{
     put_blank, put_comma_unless, put_newline, put_sign, put_spaced, put_tabs, put_word,
 };
-use mdr_core::Boxed;
+use mdr_core::{Boxed, Limit, below};
 use mdr_syntax::{Clause, Const, Decl, Form, Label, Node, NodeWhat};
 use std::alloc::{AllocError, Global};
 
@@ -20,10 +22,8 @@ use std::alloc::{AllocError, Global};
 fn deeper(depth: u64) -> Result<u64, AllocError>
     ensures { IfOk result (λ d. d ≡ suc depth) }
 {
-    match depth.checked_add(1) {
-        Some(d) => Ok(d),
-        None => Err(AllocError),
-    }
+    below(depth, Limit::Deep)?;
+    Ok(depth + 1)
 }
 
 pub fn put_semicolon(out: &mut Vec<u8>) -> Result<(), AllocError>

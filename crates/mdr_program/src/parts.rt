@@ -1,13 +1,16 @@
 // What a file declares: its structs, globals and functions by their numbers (C99 6.7, 6.9).
 
-ghost use Rattle.std.specs.Prelude.{◌≡◌, ◌+◌, ◌++◌, ◌∷◌, [], Err, IfOk, length, slice_get, slice_set, position};
+ghost use Rattle.std.specs.Prelude.{◌≡◌, ◌<◌, ◌+◌, ◌++◌, ◌∷◌, [], Err, IfOk, OnErr, length, slice_get, slice_set, position};
 ghost use Rattle.std.specs.Option.{option_copied};
 ghost use Rattle.std.specs.Str.{bytes_eq};
+ghost use Rattle.mdr_core.specs.Limits.{most};
+ghost use Rattle.mdr_core.specs.declared.memory_error.Limit.TheVariants as limit;
 ghost use Rattle.mdr_lower.specs.Lowering.{lowered};
 ghost use Rattle.mdr_program.specs.Parts.{flagged, marked, remote, whole_by, whole, number_among, declared, defined, behind_piece, parts_behind, no_parts, parts_of};
 
 use mdr_check::{Piece, Variable};
 use mdr_core::{Func, Items, Local, Name, Param, StructDef};
+use mdr_faults::small;
 use mdr_headings::{Body, Heading};
 use mdr_lower::{Work, lowered};
 use std::alloc::{AllocError, Global};
@@ -67,21 +70,11 @@ fn remote(alloc: Global, name: Name, h: Heading) -> Func
 
 /// The number of the first new slot.
 fn first_slot(params: &[Param], locals: &[Local]) -> Result<u32, AllocError>
-    ensures { IfOk result (λ n. n ≡ length params.now + length locals.now) }
+    ensures told { IfOk result (λ n. n ≡ length params.now + length locals.now) }
+    ensures wanting { OnErr result (most limit.Fields < length params.now + length locals.now) }
 {
-    match params.len().checked_add(locals.len()) {
-        Some(n) => slot_number(n),
-        None => Err(AllocError),
-    }
-}
-
-fn slot_number(n: usize) -> Result<u32, AllocError>
-    ensures { IfOk result (λ i. i ≡ n) }
-{
-    if n > u32::MAX as usize {
-        return Err(AllocError);
-    }
-    Ok(n as u32)
+    let slot = small(params.len().saturating_add(locals.len()))?;
+    Ok(slot)
 }
 
 fn appended(locals: Items<Local>, more: Items<Local>) -> Result<Items<Local>, AllocError>

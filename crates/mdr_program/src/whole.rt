@@ -1,8 +1,9 @@
 // The types of a source.
 
-ghost use Rattle.std.specs.Prelude.{◌≡◌, IfOk, List, MatchResult};
+ghost use Rattle.std.specs.Prelude.{IfOk, List};
 ghost use Rattle.mdr_check.specs.declared.file.Piece.{Piece as OnePiece};
-ghost use Rattle.mdr_faults.specs.Faults.{Checked, Right, told, after, IsFirst};
+ghost use Rattle.mdr_check.specs.Whole.{Finds};
+ghost use Rattle.mdr_faults.specs.Faults.{Checked, told, after};
 ghost use Rattle.mdr_program.specs.Programs.{program_of, program_right, typed};
 
 use crate::parts::parts_of;
@@ -19,7 +20,7 @@ fn program_right(
     alloc: Global,
     pieces: Result<Items<Piece>, Fault>,
 ) -> Result<Result<Program, Fault>, OutOfMemory>
-    ensures { (c : Checked (List OnePiece)) → MatchResult pieces (λ ps. c ≡ Right ps) (λ f. IsFirst f c) → IfOk result (λ r. MatchResult r (λ p. after c program_right ≡ Right p) (λ f. IsFirst f (after c program_right))) }
+    ensures { (c : Checked (List OnePiece)) → Finds c pieces → IfOk result (Finds (after c program_right)) }
 {
     match pieces {
         Ok(pieces) => Ok(Ok(made(alloc, parts_of(alloc, pieces)?)?)),
@@ -33,7 +34,7 @@ pub fn check<B: Bodies>(
     bodies: &B,
     tree: &Tree,
 ) -> Result<Result<Program, Fault>, OutOfMemory>
-    ensures { IfOk result (λ r. MatchResult r (λ p. typed (B.rule bodies.now) (B.used bodies.now) tree.now.items ≡ Right p) (λ f. IsFirst f (typed (B.rule bodies.now) (B.used bodies.now) tree.now.items))) }
+    ensures { IfOk result (Finds (typed (B.rule bodies.now) (B.used bodies.now) tree.now.items)) }
 {
     let pieces = checked_pieces(alloc, bodies, tree.items.as_slice())?;
     program_right(alloc, pieces)

@@ -1,19 +1,21 @@
 -- protocol
 -- Cells that are marked as visible, and what the code has at hand of memory.
-use Rattle.std.specs.Prelude.{◌≡◌, ℕ, ◌+◌, ◌*◌, ◌-◌, ◌==◌, nat_lt, Result, Ok, Err, MatchResult, ℤ, pos, negsuc, Bool, true, false, not, ◌&&◌, ◌⊎◌, List, [], ◌∷◌, ◌++◌, map, Option, Some, None, is_some, slice_get, drop, take}
+use Rattle.std.specs.Prelude.{◌≡◌, ℕ, ◌+◌, ◌*◌, ◌-◌, ◌==◌, nat_lt, ℤ, pos, negsuc, Bool, true, false, not, ◌&&◌, ◌⊎◌}
+use Rattle.std.specs.Prelude.{List, [], ◌∷◌, ◌++◌, filter, map, slice_get, drop, take, Option, Some, None, is_some, Result, Ok, Err, MatchResult}
 use Rattle.std.specs.HashSet.{HashSet}
 use Rattle.mdr_access.specs.KeyOrder.{keys}
 use Rattle.mdr_cells.specs.declared.name.CellName.{CellName}
 use Rattle.mdr_cells.specs.Names.{cell_of, named}
 use Rattle.mdr_core.specs.declared.plan.Key.{Key}
 use Rattle.mdr_core.specs.declared.program.Program.{Program}
+use Rattle.mdr_core.specs.declared.types.Ann.{Ann}
 use Rattle.mdr_core.specs.declared.value.Block.{Block}
 use Rattle.mdr_core.specs.Layout.{Alone, chosen, field_start, key_by}
-use Rattle.mdr_extents.specs.Around.{global_of}
+use Rattle.mdr_extents.specs.Around.{global_of, key_of}
 use Rattle.mdr_extents.specs.CellOrder.{IsBefore, cells}
 use Rattle.mdr_extents.specs.Extent as extents
 use Rattle.mdr_extents.specs.Extent.{Elements, Fails, first_of, is_empty, up_to}
-use Rattle.mdr_extents.specs.Reaching.{Failing, Roots, beginning, cells_led, counts, extent_at, first_failing, graph, own_cells, root_cells, visible as visible_now}
+use Rattle.mdr_extents.specs.Reaching.{Failing, Root, Roots, beginning, cells_led, counts, extent_at, extent_by, first_failing, graph, own_cells, root_cells, root_extent, visible as visible_now}
 use Rattle.mdr_meaning.specs.declared.wire.Wire.{Wire}
 use Rattle.mdr_meaning.specs.declared.wire.Wire.TheVariants as wire
 use Rattle.mdr_meaning.specs.declared.wire.WireView.{WireView}
@@ -22,6 +24,7 @@ use Rattle.mdr_meaning.specs.Values.{wire_of}
 use Rattle.mdr_mem.specs.Contents.{Contents, wire_in}
 use Rattle.mdr_model.specs.declared.memory.Cell.{Cell}
 use Rattle.mdr_model.specs.Memory.{Memory, born_at, cell_at}
+use Rattle.mdr_model.specs.Sets.{cells_from}
 use Rattle.mdr_paths.specs.Paths.{Graph, IsPartial, fails, is_in, visible, visible_set}
 use Rattle.mdr_reach.specs.declared.extent.Extent.{Extent}
 use Rattle.mdr_reach.specs.declared.extent.Extent.TheVariants as extent
@@ -145,6 +148,12 @@ graph_in scene = graph scene.program.now scene.touched.now scene.blocks.now.memo
 abbrev pub counts_in : Scene → Cell → Bool
 counts_in scene = counts_at scene.program.now scene.touched.now scene.blocks.now.memory
 
+abbrev pub AreMarkedIn : Scene → (test : Cell → Bool) → List Cell → Type 0
+AreMarkedIn scene test marked = AreMarked (counts_in scene) test marked
+
+abbrev pub with_cell_in : Scene → List Cell → Cell → List Cell
+with_cell_in scene marked c = with_cell (counts_in scene) marked c
+
 abbrev pub entered_in : Scene → List Cell → List Cell → List Cell
 entered_in scene marked cs = entered (counts_in scene) marked cs
 
@@ -159,6 +168,45 @@ failing_in scene roots = first_failing scene.program.now scene.touched.now scene
 
 abbrev pub visible_in : Scene → (known : List Cell) → Roots → Result (List Cell) Failing
 visible_in scene known roots = visible_now scene.program.now scene.touched.now scene.blocks.now.memory known roots
+
+-- the cell of a live block with an index
+abbrev pub cell_in : Held → (index : ℕ) → Cell
+cell_in h index = record { serial = h.born.serial; index = index }
+
+-- of so many cells of a live block, those with their keys among those that may be touched
+abbrev pub touched_cells : Scene → Held → (first count : ℕ) → List Cell
+touched_cells scene h first count =
+    filter (λ (c : Cell). extents.is_touched scene.program.now scene.touched.now h.born c.index) (cells_from h.born.serial first count)
+
+-- the extent of a value with this annotation, among these siblings
+abbrev pub value_extent : Scene → Siblings → Ann → Wire → extents.Extent
+value_extent scene siblings ann v =
+    extents.extent scene.program.now scene.touched.now scene.blocks.now.memory (siblings_of scene.program.now scene.blocks.now.handles siblings) ann v
+
+-- of a pointer into a live block
+abbrev pub block_extent : Scene → Held → Siblings → Ann → WireView → extents.Extent
+block_extent scene h siblings ann v =
+    extents.extent_in scene.program.now scene.touched.now scene.blocks.now.memory (siblings_of scene.program.now scene.blocks.now.handles siblings) ann v (Some h.born)
+
+-- of a value in a cell of a live block
+abbrev pub held_extent : Scene → Held → (index : ℕ) → Wire → extents.Extent
+held_extent scene h index v =
+    extent_by scene.program.now scene.touched.now scene.blocks.now.memory h.born index (key_of scene.program.now h.born index) v
+
+-- of what a cell holds
+abbrev pub cell_extent : Scene → Cell → extents.Extent
+cell_extent scene c = extent_at scene.program.now scene.touched.now scene.blocks.now.memory c
+
+-- of what is passed
+abbrev pub passed_extent : Scene → (passed : List Wire) → Root → extents.Extent
+passed_extent scene passed root = root_extent scene.program.now scene.touched.now scene.blocks.now.memory passed root
+
+-- the cells of a value's extent
+abbrev pub target_cells : Scene → Wire → extents.Extent → List Cell
+target_cells scene v extent = extents.cells_in scene.program.now scene.touched.now scene.blocks.now.memory v extent
+
+abbrev pub passed_cells : Scene → (passed : List Wire) → Root → List Cell
+passed_cells scene passed root = target_cells scene root.value (passed_extent scene passed root)
 
 -- no pointer that is passed fails, and the marked cells are those with which the set begins
 pub record IsBegun (scene : Scene) (known : List Cell) (roots : Roots) (marked : List Cell) : Type 0 where

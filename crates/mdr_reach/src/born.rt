@@ -1,13 +1,10 @@
 // Blocks that are born.
 
-ghost use Rattle.std.specs.Prelude.{◌≡◌, ◌≤◌, ◌++◌, ◌∷◌, [], filter, IfOk, length};
+ghost use Rattle.std.specs.Prelude.{◌≡◌, ◌≤◌, ◌++◌, ◌∷◌, [], IfOk, length};
 ghost use Rattle.mdr_cells.specs.Names.{AreBefore, cell_of};
-ghost use Rattle.mdr_extents.specs.Extent.{is_touched};
 ghost use Rattle.mdr_mem.specs.Contents.{births_in};
-ghost use Rattle.mdr_model.specs.declared.memory.Cell.{Cell};
-ghost use Rattle.mdr_model.specs.Sets.{cells_from};
 ghost use Rattle.mdr_reach.specs.Answers.{IsOlder};
-ghost use Rattle.mdr_reach.specs.Marks.{IsHeld, cells_born};
+ghost use Rattle.mdr_reach.specs.Marks.{IsHeld, cell_in, cells_born, touched_cells};
 ghost use Rattle.mdr_reach.specs.Spots.{AreLayouts};
 ghost use Rattle.mdr_watched.specs.Views.{new_cells};
 
@@ -38,8 +35,8 @@ fn with_cell(
     index: u64,
 ) -> Result<CellSet, OutOfMemory>
     requires held { IsHeld scene.program.now scene.touched.now scene.blocks.now h }
-    requires before { AreBefore set (record { serial = h.born.serial; index = index }) }
-    ensures { IfOk result (λ all. all ≡ set ++ filter (λ (c : Cell). is_touched scene.entry.program.now scene.entry.touched.now h.entry.born c.index) (cells_from h.entry.born.serial index 1)) }
+    requires before { AreBefore set (cell_in h index) }
+    ensures { IfOk result (λ all. all ≡ set ++ touched_cells scene.entry h.entry index 1) }
 {
     if is_touched(scene, h, index) {
         let all = with_name(
@@ -59,7 +56,7 @@ fn with_cell(
 fn with_block(scene: Scene<'_>, set: CellSet, h: Held<'_>) -> Result<CellSet, OutOfMemory>
     requires held { IsHeld scene.program.now scene.touched.now scene.blocks.now h }
     requires older { IsOlder h.born.serial set }
-    ensures { IfOk result (λ all. all ≡ set ++ filter (λ (c : Cell). is_touched scene.entry.program.now scene.entry.touched.now h.entry.born c.index) (cells_from h.entry.born.serial 0 (length h.entry.cells.now))) }
+    ensures { IfOk result (λ all. all ≡ set ++ touched_cells scene.entry h.entry 0 (length h.entry.cells.now)) }
 {
     let mut set = set;
     for index in 0..h.cells.len() {

@@ -1,15 +1,15 @@
 // How far a pointer may be followed.
 
-ghost use Rattle.std.specs.Prelude.{◌≡◌, ◌-◌, ◌<◌, MatchOption, Some};
+ghost use Rattle.std.specs.Prelude.{◌≡◌, ◌-◌, ◌<◌, MatchOption};
 ghost use Rattle.std.specs.List.{list_any};
 ghost use Rattle.mdr_core.specs.Layout.{struct_of};
-ghost use Rattle.mdr_extents.specs.Extent.{annotated, extent, extent_in, is_touched, start_in, up_to};
+ghost use Rattle.mdr_extents.specs.Extent.{annotated, is_touched, start_in, up_to};
 ghost use Rattle.mdr_meaning.specs.declared.wire.Wire.TheVariants as wire;
 ghost use Rattle.mdr_meaning.specs.Pointers.{size, struct_numbered};
 ghost use Rattle.mdr_meaning.specs.Values.{wire_of, wire_view};
 ghost use Rattle.mdr_model.specs.declared.memory.Cell.{Cell};
 ghost use Rattle.mdr_model.specs.Sets.{cells_from};
-ghost use Rattle.mdr_reach.specs.Marks.{IsHeld, extent_long, extent_of, extent_searched, extent_single, siblings_of};
+ghost use Rattle.mdr_reach.specs.Marks.{IsHeld, block_extent, extent_long, extent_of, extent_searched, extent_single, siblings_of, value_extent};
 ghost use Rattle.mdr_reach.specs.Spots.{AreLayouts};
 
 use crate::held::{Held, block_at, is_touched};
@@ -155,7 +155,7 @@ fn extent_in(scene: Scene<'_>, h: Held<'_>, siblings: Siblings<'_>, ann: Ann, p:
     requires layouts { AreLayouts scene.program.now scene.touched.now scene.layouts.now }
     requires held { IsHeld scene.program.now scene.touched.now scene.blocks.now h }
     requires serial { h.born.serial ≡ p.block.serial }
-    ensures { extent_of result ≡ extent_in scene.entry.program.now scene.entry.touched.now scene.entry.blocks.now.memory (siblings_of scene.entry.program.now scene.entry.blocks.now.handles siblings.entry) ann (wire_view p) (Some h.entry.born) }
+    ensures { extent_of result ≡ block_extent scene.entry h.entry siblings.entry ann (wire_view p) }
 {
     let size = element_size(scene, p.ty);
     if is_any_touched(scene, h, p.first, size) {
@@ -168,7 +168,7 @@ fn extent_in(scene: Scene<'_>, h: Held<'_>, siblings: Siblings<'_>, ann: Ann, p:
 /// Of a pointer.
 fn extent_view(scene: Scene<'_>, siblings: Siblings<'_>, ann: Ann, p: View) -> Extent
     requires { AreLayouts scene.program.now scene.touched.now scene.layouts.now }
-    ensures { extent_of result ≡ extent scene.entry.program.now scene.entry.touched.now scene.entry.blocks.now.memory (siblings_of scene.entry.program.now scene.entry.blocks.now.handles siblings.entry) ann (wire.Ptr (wire_view p)) }
+    ensures { extent_of result ≡ value_extent scene.entry siblings.entry ann (wire.Ptr (wire_view p)) }
 {
     match block_at(scene, p.block.serial) {
         Some(h) => extent_in(scene, h, siblings, ann, p),
@@ -185,7 +185,7 @@ pub(crate) fn value_extent(
     value: Value,
 ) -> Extent
     requires { AreLayouts scene.program.now scene.touched.now scene.layouts.now }
-    ensures { extent_of result ≡ extent scene.entry.program.now scene.entry.touched.now scene.entry.blocks.now.memory (siblings_of scene.entry.program.now scene.entry.blocks.now.handles siblings.entry) ann (wire_of value) }
+    ensures { extent_of result ≡ value_extent scene.entry siblings.entry ann (wire_of value) }
 {
     match value {
         Value::Ptr(p) => extent_view(scene, siblings, ann, p),

@@ -3,13 +3,12 @@
 ghost use Rattle.std.specs.Prelude.{◌≡◌, ◌<◌, false, IfOk, MatchOption, None, OnOk, Some, length, map, not, slice_get};
 ghost use Rattle.mdr_cells.specs.Names.{cell_of, named};
 ghost use Rattle.mdr_core.specs.declared.plan.Key.TheVariants as key;
-ghost use Rattle.mdr_extents.specs.Around.{ann_of, global_ann, key_of, struct_start};
-ghost use Rattle.mdr_extents.specs.Extent.{cells_in, has_failed};
-ghost use Rattle.mdr_extents.specs.Reaching.{extent_at, extent_by, root_extent};
+ghost use Rattle.mdr_extents.specs.Around.{ann_of, global_ann, struct_start};
+ghost use Rattle.mdr_extents.specs.Extent.{has_failed};
 ghost use Rattle.mdr_meaning.specs.Values.{wire_of};
 ghost use Rattle.mdr_model.specs.Memory.{born_at};
 ghost use Rattle.mdr_reach.specs.Answers.{root_of, roots_of};
-ghost use Rattle.mdr_reach.specs.Marks.{IsHeld, IsNoPointer, counts_at, entered, entered_in, extent_of, failing_in, led, passed_in};
+ghost use Rattle.mdr_reach.specs.Marks.{IsHeld, IsNoPointer, cell_extent, cell_in, entered_in, extent_of, failing_in, held_extent, led_in, passed_cells, passed_extent, passed_in};
 ghost use Rattle.mdr_reach.specs.Spots.{AreLayouts};
 
 use crate::extent::{Extent, value_extent};
@@ -59,7 +58,7 @@ fn start(scene: Scene<'_>, h: Held<'_>, index: u64) -> u64
 fn extent_around(scene: Scene<'_>, h: Held<'_>, index: u64, value: Value) -> Extent
     requires layouts { AreLayouts scene.program.now scene.touched.now scene.layouts.now }
     requires held { IsHeld scene.program.now scene.touched.now scene.blocks.now h }
-    ensures { extent_of result ≡ extent_by scene.entry.program.now scene.entry.touched.now scene.entry.blocks.now.memory h.entry.born index (key_of scene.entry.program.now h.entry.born index) (wire_of value) }
+    ensures { extent_of result ≡ held_extent scene.entry h.entry index (wire_of value) }
 {
     match around(scene, h, index) {
         Some(Around::Field(s, f, _)) => {
@@ -93,7 +92,7 @@ fn is_pointer(value: Value) -> bool
 fn extent_in_cell(scene: Scene<'_>, h: Held<'_>, index: u64, value: Value) -> Extent
     requires layouts { AreLayouts scene.program.now scene.touched.now scene.layouts.now }
     requires held { IsHeld scene.program.now scene.touched.now scene.blocks.now h }
-    ensures { extent_of result ≡ extent_by scene.entry.program.now scene.entry.touched.now scene.entry.blocks.now.memory h.entry.born index (key_of scene.entry.program.now h.entry.born index) (wire_of value) }
+    ensures { extent_of result ≡ held_extent scene.entry h.entry index (wire_of value) }
 {
     if is_pointer(value) {
         extent_around(scene, h, index, value)
@@ -111,8 +110,8 @@ fn follow_in(
 ) -> Result<bool, OutOfMemory>
     requires layouts { AreLayouts scene.program.now scene.touched.now scene.layouts.now }
     requires held { IsHeld scene.program.now scene.touched.now scene.blocks.now h }
-    ensures whole { IfOk result (λ t. t ≡ not (has_failed (extent_at scene.entry.program.now scene.entry.touched.now scene.entry.blocks.now.memory (record { serial = h.entry.born.serial; index = index })))) }
-    ensures marked { OnOk result (named marked.new.keys ≡ entered (counts_at scene.entry.program.now scene.entry.touched.now scene.entry.blocks.now.memory) (named marked.old.keys) (led scene.entry.program.now scene.entry.touched.now scene.entry.blocks.now.memory (record { serial = h.entry.born.serial; index = index }))) }
+    ensures whole { IfOk result (λ t. t ≡ not (has_failed (cell_extent scene.entry (cell_in h.entry index)))) }
+    ensures marked { OnOk result (named marked.new.keys ≡ entered_in scene.entry (named marked.old.keys) (led_in scene.entry (cell_in h.entry index))) }
 {
     match value_at(scene, h, index) {
         Some(value) => {
@@ -134,8 +133,8 @@ pub(crate) fn follow(
     requires layouts { AreLayouts scene.program.now scene.touched.now scene.layouts.now }
     requires held { MatchOption block (born_at scene.blocks.now.memory name.serial ≡ None) (λ x. IsHeld scene.program.now scene.touched.now scene.blocks.now x) }
     requires serial { MatchOption block (Unit {0}) (λ x. x.born.serial ≡ name.serial) }
-    ensures whole { IfOk result (λ t. t ≡ not (has_failed (extent_at scene.entry.program.now scene.entry.touched.now scene.entry.blocks.now.memory (cell_of name)))) }
-    ensures marked { OnOk result (named marked.new.keys ≡ entered (counts_at scene.entry.program.now scene.entry.touched.now scene.entry.blocks.now.memory) (named marked.old.keys) (led scene.entry.program.now scene.entry.touched.now scene.entry.blocks.now.memory (cell_of name))) }
+    ensures whole { IfOk result (λ t. t ≡ not (has_failed (cell_extent scene.entry (cell_of name)))) }
+    ensures marked { OnOk result (named marked.new.keys ≡ entered_in scene.entry (named marked.old.keys) (led_in scene.entry (cell_of name))) }
 {
     match block {
         Some(h) => {
@@ -154,8 +153,8 @@ fn enter_root(
     root: Root,
 ) -> Result<bool, OutOfMemory>
     requires layouts { AreLayouts scene.program.now scene.touched.now scene.layouts.now }
-    ensures whole { IfOk result (λ t. t ≡ not (has_failed (root_extent scene.entry.program.now scene.entry.touched.now scene.entry.blocks.now.memory (map wire_of passed.now) (root_of root)))) }
-    ensures marked { OnOk result (named marked.new.keys ≡ entered (counts_at scene.entry.program.now scene.entry.touched.now scene.entry.blocks.now.memory) (named marked.old.keys) (cells_in scene.entry.program.now scene.entry.touched.now scene.entry.blocks.now.memory (wire_of root.value) (root_extent scene.entry.program.now scene.entry.touched.now scene.entry.blocks.now.memory (map wire_of passed.now) (root_of root)))) }
+    ensures whole { IfOk result (λ t. t ≡ not (has_failed (passed_extent scene.entry (map wire_of passed.now) (root_of root)))) }
+    ensures marked { OnOk result (named marked.new.keys ≡ entered_in scene.entry (named marked.old.keys) (passed_cells scene.entry (map wire_of passed.now) (root_of root))) }
 {
     let extent = value_extent(scene, Siblings::Passed(passed), root.ann, root.value);
     let whole = enter_extent(scene, marked, root.value, extent)?;

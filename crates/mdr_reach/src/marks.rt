@@ -1,17 +1,17 @@
 // Cells that are marked as visible, in the order in which they are met.
 
-ghost use Rattle.std.specs.Prelude.{◌≡◌, ◌==◌, ◌||◌, ◌+◌, ◌*◌, ◌<◌, ◌≤◌, ◌++◌, ◌∷◌, [], Bool, IfOk, MatchOption, None, OnOk, length, nat_lt, not};
+ghost use Rattle.std.specs.Prelude.{◌≡◌, ◌==◌, ◌||◌, ◌+◌, ◌<◌, ◌≤◌, ◌++◌, ◌∷◌, [], Bool, IfOk, MatchOption, None, OnOk, length, nat_lt, not};
 ghost use Rattle.mdr_cells.specs.Names.{cell_of, named};
 ghost use Rattle.mdr_core.specs.Layout.{chosen};
 ghost use Rattle.mdr_extents.specs.CellOrder.{cells};
-ghost use Rattle.mdr_extents.specs.Extent.{Elements, cells_in, has_failed};
-ghost use Rattle.mdr_meaning.specs.Pointers.{size};
-ghost use Rattle.mdr_meaning.specs.Values.{wire_of};
+ghost use Rattle.mdr_extents.specs.Extent.{Elements, has_failed};
+ghost use Rattle.mdr_meaning.specs.declared.wire.Wire.TheVariants as wire;
+ghost use Rattle.mdr_meaning.specs.Values.{wire_of, wire_view};
 ghost use Rattle.mdr_model.specs.declared.memory.Cell.{Cell};
 ghost use Rattle.mdr_model.specs.Memory.{born_at};
 ghost use Rattle.mdr_model.specs.Sets.{cells_from};
 ghost use Rattle.mdr_paths.specs.Paths.{is_in};
-ghost use Rattle.mdr_reach.specs.Marks.{AreMarked, IsHeld, counts_at, entered, extent_of, with_cell};
+ghost use Rattle.mdr_reach.specs.Marks.{AreMarkedIn, IsHeld, cell_in, entered_in, extent_of, target_cells, with_cell_in};
 ghost use Rattle.mdr_reach.specs.Spots.{AreLayouts};
 
 use crate::extent::{Extent, element_size};
@@ -38,7 +38,7 @@ fn enter(
     index: u64,
 ) -> Result<(), OutOfMemory>
     requires { IsHeld scene.program.now scene.touched.now scene.blocks.now h }
-    ensures { OnOk result (named marked.new.keys ≡ with_cell (counts_at scene.entry.program.now scene.entry.touched.now scene.entry.blocks.now.memory) (named marked.old.keys) (record { serial = h.entry.born.serial; index = index })) }
+    ensures { OnOk result (named marked.new.keys ≡ with_cell_in scene.entry (named marked.old.keys) (cell_in h.entry index)) }
 {
     if counts(scene, h, index) {
         mark(
@@ -81,7 +81,7 @@ fn enter_in(
     count: u64,
 ) -> Result<(), OutOfMemory>
     requires held { IsHeld scene.program.now scene.touched.now scene.blocks.now h }
-    ensures { OnOk result (named marked.new.keys ≡ entered (counts_at scene.entry.program.now scene.entry.touched.now scene.entry.blocks.now.memory) (named marked.old.keys) (cells_from h.entry.born.serial first count)) }
+    ensures { OnOk result (named marked.new.keys ≡ entered_in scene.entry (named marked.old.keys) (cells_from h.entry.born.serial first count)) }
 {
     let end = end_of(first, count, h.cells.len());
     let mut index = first;
@@ -101,7 +101,7 @@ fn enter_from(
     count: u64,
 ) -> Result<(), OutOfMemory>
     requires { AreLayouts scene.program.now scene.touched.now scene.layouts.now }
-    ensures { OnOk result (named marked.new.keys ≡ entered (counts_at scene.entry.program.now scene.entry.touched.now scene.entry.blocks.now.memory) (named marked.old.keys) (cells_from serial first count)) }
+    ensures { OnOk result (named marked.new.keys ≡ entered_in scene.entry (named marked.old.keys) (cells_from serial first count)) }
 {
     match block_at(scene, serial) {
         Some(h) => {
@@ -120,7 +120,7 @@ fn enter_elements(
     count: u32,
 ) -> Result<(), OutOfMemory>
     requires { AreLayouts scene.program.now scene.touched.now scene.layouts.now }
-    ensures { OnOk result (named marked.new.keys ≡ entered (counts_at scene.entry.program.now scene.entry.touched.now scene.entry.blocks.now.memory) (named marked.old.keys) (cells_from p.block.serial (p.first + p.index * size scene.entry.program.now p.ty) (count * size scene.entry.program.now p.ty))) }
+    ensures { OnOk result (named marked.new.keys ≡ entered_in scene.entry (named marked.old.keys) (target_cells scene.entry (wire.Ptr (wire_view p)) (Elements count))) }
 {
     let size = element_size(scene, p.ty);
     let first = p.first as u64 + p.index as u64 * size as u64;
@@ -138,7 +138,7 @@ fn enter_target(
     count: u32,
 ) -> Result<(), OutOfMemory>
     requires { AreLayouts scene.program.now scene.touched.now scene.layouts.now }
-    ensures { OnOk result (named marked.new.keys ≡ entered (counts_at scene.entry.program.now scene.entry.touched.now scene.entry.blocks.now.memory) (named marked.old.keys) (cells_in scene.entry.program.now scene.entry.touched.now scene.entry.blocks.now.memory (wire_of value) (Elements count))) }
+    ensures { OnOk result (named marked.new.keys ≡ entered_in scene.entry (named marked.old.keys) (target_cells scene.entry (wire_of value) (Elements count))) }
 {
     match value {
         Value::Ptr(p) => {
@@ -163,7 +163,7 @@ pub(crate) fn enter_extent(
 ) -> Result<bool, OutOfMemory>
     requires { AreLayouts scene.program.now scene.touched.now scene.layouts.now }
     ensures whole { IfOk result (λ t. t ≡ not (has_failed (extent_of extent))) }
-    ensures marked { OnOk result (named marked.new.keys ≡ entered (counts_at scene.entry.program.now scene.entry.touched.now scene.entry.blocks.now.memory) (named marked.old.keys) (cells_in scene.entry.program.now scene.entry.touched.now scene.entry.blocks.now.memory (wire_of value) (extent_of extent))) }
+    ensures marked { OnOk result (named marked.new.keys ≡ entered_in scene.entry (named marked.old.keys) (target_cells scene.entry (wire_of value) (extent_of extent))) }
 {
     match extent {
         Extent::Elements(count) => {
@@ -183,7 +183,7 @@ fn enter_name(
 ) -> Result<(), OutOfMemory>
     requires held { MatchOption block (born_at scene.blocks.now.memory name.serial ≡ None) (λ x. IsHeld scene.program.now scene.touched.now scene.blocks.now x) }
     requires serial { MatchOption block (Unit {0}) (λ x. x.born.serial ≡ name.serial) }
-    ensures { OnOk result (named marked.new.keys ≡ with_cell (counts_at scene.entry.program.now scene.entry.touched.now scene.entry.blocks.now.memory) (named marked.old.keys) (cell_of name)) }
+    ensures { OnOk result (named marked.new.keys ≡ with_cell_in scene.entry (named marked.old.keys) (cell_of name)) }
 {
     match block {
         Some(h) => {
@@ -202,7 +202,7 @@ pub(crate) fn enter_names(
     names: &[CellName],
 ) -> Result<(), OutOfMemory>
     requires { AreLayouts scene.program.now scene.touched.now scene.layouts.now }
-    ensures { OnOk result (named marked.new.keys ≡ entered (counts_at scene.entry.program.now scene.entry.touched.now scene.entry.blocks.now.memory) (named marked.old.keys) (named names.now)) }
+    ensures { OnOk result (named marked.new.keys ≡ entered_in scene.entry (named marked.old.keys) (named names.now)) }
 {
     let mut last = None;
     for name in names {
@@ -220,7 +220,7 @@ fn enter_global(
     global: u64,
 ) -> Result<(), OutOfMemory>
     requires layouts { AreLayouts scene.program.now scene.touched.now scene.layouts.now }
-    ensures { (test : Cell → Bool) → AreMarked (counts_at scene.entry.program.now scene.entry.touched.now scene.entry.blocks.now.memory) test (named marked.old.keys) → OnOk result (AreMarked (counts_at scene.entry.program.now scene.entry.touched.now scene.entry.blocks.now.memory) (λ c. test c || (c.serial == global)) (named marked.new.keys)) }
+    ensures { (test : Cell → Bool) → AreMarkedIn scene.entry test (named marked.old.keys) → OnOk result (AreMarkedIn scene.entry (λ c. test c || (c.serial == global)) (named marked.new.keys)) }
 {
     match block_at(scene, global) {
         Some(h) => {
@@ -237,7 +237,7 @@ pub(crate) fn marked_globals(
     scene: Scene<'_>,
 ) -> Result<IndexSet<CellName>, OutOfMemory>
     requires { AreLayouts scene.program.now scene.touched.now scene.layouts.now }
-    ensures { IfOk result (λ marked. AreMarked (counts_at scene.entry.program.now scene.entry.touched.now scene.entry.blocks.now.memory) (λ c. nat_lt c.serial (length scene.entry.program.now.globals)) (named marked.keys)) }
+    ensures { IfOk result (λ marked. AreMarkedIn scene.entry (λ c. nat_lt c.serial (length scene.entry.program.now.globals)) (named marked.keys)) }
 {
     let mut marked = IndexSet::new(alloc);
     for global in 0..scene.program.globals.len() {

@@ -5,6 +5,7 @@ use Rattle.mdr_core.specs.Layout.{chosen}
 use Rattle.mdr_syntax.specs.declared.token.Token.{Token}
 use Rattle.mdr_reader.specs.declared.failure.Failure.{Failure}
 use Rattle.mdr_reader.specs.declared.failure.Failure.TheVariants.{Memory, Fault}
+use Rattle.mdr_reader.specs.declared.failure.Refused.{Refused}
 use Rattle.mdr_grammar.specs.declared.sort.Sort.{Sort}
 use Rattle.mdr_grammar.specs.Sorts.{sort_of}
 use Rattle.mdr_grammar.specs.Forms.{Right, Rule, Empty}
@@ -19,6 +20,11 @@ Fails (Fault left) read = read ≡ Err left
 abbrev pub Gives : {X A : Type 0} → (X → A) → (X → List Token) → Result X Failure → Read A → Type 0
 Gives value rest (Ok x) read = read ≡ Ok (value x, rest x)
 Gives value rest (Err e) read = Fails e read
+
+-- the same where nothing asks for memory
+abbrev pub Tells : {X A : Type 0} → (X → A) → (X → List Token) → Result X Refused → Read A → Type 0
+Tells value rest (Ok x) read = read ≡ Ok (value x, rest x)
+Tells value rest (Err e) read = read ≡ Err e.left
 
 -- the first token, its sort, and those behind it
 abbrev pub Splits : {X : Type 0} → (halves : Bool) → (X → Sort) → (X → Token) → (X → List Token) → Option X → List Token → Type 0

@@ -6,11 +6,12 @@ ghost use Rattle.mdr_grammar.specs.Expressions.{may_open as may_be_open};
 ghost use Rattle.mdr_grammar.specs.Forms.Part.{constant as a_constant, annotation as an_annotation, size as a_size, value as a_value};
 ghost use Rattle.mdr_grammar.specs.Forms.Nonterminal.{part, option, stars as some_stars};
 ghost use Rattle.mdr_grammar.specs.Front.{first, front};
-ghost use Rattle.mdr_grammar.specs.Declarations.{some_bracketed, constant_there, array_behind as behind_array, sentinel_behind as behind_sentinel, negative_behind as behind_minus, number_const, name_const};
-ghost use Rattle.mdr_reader.specs.Gives.{Gives};
+ghost use Rattle.mdr_grammar.specs.Declarations.{some_bracketed, constant_there, array_behind as behind_array, sentinel_behind as behind_sentinel};
+ghost use Rattle.mdr_grammar.specs.Declarations.{negative_behind as behind_minus, number_const, name_const};
+ghost use Rattle.mdr_reader.specs.Gives.{Gives, Tells};
 ghost use Rattle.mdr_reader.specs.declared.failure.Failure.TheVariants.{Memory};
 
-use crate::failure::Failure;
+use crate::failure::{Failure, Refused};
 use crate::look::{Reader, copied, kind_in, may_open, number_in, past, split, take, text_of};
 use crate::openings::perhaps;
 use mdr_core::Place;
@@ -40,8 +41,8 @@ fn negative_behind<'t>(
     reader: Reader,
     minus: &Token,
     tokens: &'t [Token],
-) -> Result<(Const, &'t [Token]), Failure>
-    ensures reads { Gives (λ x. x.0) (λ x. x.1.now) result (front reader.halves (behind_minus minus.now) tokens.now) }
+) -> Result<(Const, &'t [Token]), Refused>
+    ensures reads { Tells (λ x. x.0) (λ x. x.1.now) result (front reader.halves (behind_minus minus.now) tokens.now) }
     ensures shorter { IfOk result (λ x. length x.1.now < length tokens.now) }
 {
     let (number, rest) = take(reader.halves, Sort::Number, tokens)?;
@@ -57,7 +58,7 @@ pub fn constant(reader: Reader, tokens: &[Token]) -> Result<(Const, &[Token]), F
         return Err(Failure::Fault(tokens.len()));
     };
     match sort {
-        Sort::Minus => negative_behind(reader, token, rest),
+        Sort::Minus => Ok(negative_behind(reader, token, rest)?),
         Sort::Number => Ok((number_constant(false, token.place, token), rest)),
         Sort::Name => Ok((name_constant(reader, token)?, rest)),
         _ => Err(Failure::Fault(tokens.len())),

@@ -24,6 +24,22 @@ impl Failure {
     }
 }
 
+/// A token that can't stand there, told by how many are left: the answer of what takes nothing from an allocator.
+#[derive(Clone, Copy)]
+pub struct Refused {
+    pub left: usize,
+}
+
+impl From<Refused> for Failure {
+    ghost use Rattle.mdr_reader.specs.declared.failure.Failure.TheVariants.{Fault};
+
+    ghost from_gives = { λ r e. e ≡ Fault r.left };
+
+    fn from(refused: Refused) -> Failure {
+        Failure::Fault(refused.left)
+    }
+}
+
 impl From<AllocError> for Failure {
     ghost use Rattle.mdr_reader.specs.declared.failure.Failure.TheVariants.{Memory};
 

@@ -3,9 +3,9 @@
 ghost use Rattle.std.specs.Prelude.{◌≡◌, ◌<◌, length, IfOk, IfSome};
 ghost use Rattle.mdr_grammar.specs.Expressions.{text_of, number_in, kind_in, may_open, is_level_free};
 ghost use Rattle.mdr_grammar.specs.Front.{word_at};
-ghost use Rattle.mdr_reader.specs.Gives.{Gives, Splits, Past};
+ghost use Rattle.mdr_reader.specs.Gives.{Tells, Splits, Past};
 
-use crate::failure::Failure;
+use crate::failure::Refused;
 use crate::sorting::sort_of;
 use mdr_core::{Items, Kind, Name};
 use mdr_grammar::sort::Sort;
@@ -32,13 +32,13 @@ pub fn split(halves: bool, tokens: &[Token]) -> Option<(Sort, &Token, &[Token])>
 
 /// The first token, which has to be of the sort, and those behind it.
 #[tactic(auto, unfolding(mdr_grammar::specs::Front::word_at))]
-pub fn take(halves: bool, sort: Sort, tokens: &[Token]) -> Result<(&Token, &[Token]), Failure>
-    ensures reads { Gives (λ x. x.0.now) (λ x. x.1.now) result (word_at halves sort tokens.now) }
+pub fn take(halves: bool, sort: Sort, tokens: &[Token]) -> Result<(&Token, &[Token]), Refused>
+    ensures reads { Tells (λ x. x.0.now) (λ x. x.1.now) result (word_at halves sort tokens.now) }
     ensures shorter { IfOk result (λ x. length x.1.now < length tokens.now) }
 {
     match split(halves, tokens) {
         Some((found, first, rest)) if sort.is(found) => Ok((first, rest)),
-        _ => Err(Failure::Fault(tokens.len())),
+        _ => Err(Refused { left: tokens.len() }),
     }
 }
 

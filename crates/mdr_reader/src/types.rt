@@ -6,11 +6,11 @@ ghost use Rattle.mdr_grammar.specs.Forms.Part.{base as a_base, specifiers as som
 ghost use Rattle.mdr_grammar.specs.Forms.Nonterminal.{part, unsigned_word as an_unsigned_word};
 ghost use Rattle.mdr_grammar.specs.Front.{first, front};
 ghost use Rattle.mdr_grammar.specs.Expressions.{base_rule, struct_of};
-ghost use Rattle.mdr_reader.specs.Gives.{Gives, Behind};
+ghost use Rattle.mdr_reader.specs.Gives.{Gives, Tells, Behind};
 ghost use Rattle.mdr_reader.specs.declared.failure.Failure.TheVariants.{Memory};
 ghost use Rattle.mdr_grammar.specs.declared.sort.Sort.TheVariants as sort_is;
 
-use crate::failure::Failure;
+use crate::failure::{Failure, Refused};
 use crate::look::{Reader, copied, past, split, take, text_of};
 use mdr_core::{Kind, Place};
 use mdr_grammar::parts::Specifier;
@@ -18,19 +18,19 @@ use mdr_grammar::sort::Sort;
 use mdr_syntax::{Base, Token};
 
 /// What stands behind `unsigned`, if anything does.
-fn unsigned_word(reader: Reader, tokens: &[Token]) -> Result<(Base, &[Token]), Failure>
-    ensures reads { Gives (λ x. x.0) (λ x. x.1.now) result (first reader.halves an_unsigned_word tokens.now) }
-    ensures shorter { IfOk result (λ x. length x.1.now ≤ length tokens.now) }
+fn unsigned_word(reader: Reader, tokens: &[Token]) -> (Base, &[Token])
+    ensures reads { first reader.halves an_unsigned_word tokens.now ≡ Ok (result.0, result.1.now) }
+    ensures shorter { length result.1.now ≤ length tokens.now }
 {
     let Some((sort, _, rest)) = split(reader.halves, tokens) else {
-        return Ok((Base::Int(Kind::U32), tokens));
+        return (Base::Int(Kind::U32), tokens);
     };
     match sort {
-        Sort::Char => Ok((Base::Int(Kind::U8), rest)),
-        Sort::Short => Ok((Base::Int(Kind::U16), rest)),
-        Sort::Int => Ok((Base::Int(Kind::U32), rest)),
-        Sort::Long => Ok((Base::Int(Kind::U64), rest)),
-        _ => Ok((Base::Int(Kind::U32), tokens)),
+        Sort::Char => (Base::Int(Kind::U8), rest),
+        Sort::Short => (Base::Int(Kind::U16), rest),
+        Sort::Int => (Base::Int(Kind::U32), rest),
+        Sort::Long => (Base::Int(Kind::U64), rest),
+        _ => (Base::Int(Kind::U32), tokens),
     }
 }
 
@@ -39,8 +39,8 @@ fn signed_behind<'t>(
     reader: Reader,
     token: &Token,
     tokens: &'t [Token],
-) -> Result<(Specifier, &'t [Token]), Failure>
-    ensures reads { Behind (base_rule sort_is.Signed token.now) (λ r. Gives (λ x. x.0) (λ x. x.1.now) result (front reader.halves r tokens.now)) }
+) -> Result<(Specifier, &'t [Token]), Refused>
+    ensures reads { Behind (base_rule sort_is.Signed token.now) (λ r. Tells (λ x. x.0) (λ x. x.1.now) result (front reader.halves r tokens.now)) }
     ensures shorter { IfOk result (λ x. length x.1.now ≤ length tokens.now) }
 {
     let (_, rest) = take(reader.halves, Sort::Char, tokens)?;
@@ -58,18 +58,18 @@ fn unsigned_behind<'t>(
     reader: Reader,
     token: &Token,
     tokens: &'t [Token],
-) -> Result<(Specifier, &'t [Token]), Failure>
-    ensures reads { Behind (base_rule sort_is.Unsigned token.now) (λ r. Gives (λ x. x.0) (λ x. x.1.now) result (front reader.halves r tokens.now)) }
-    ensures shorter { IfOk result (λ x. length x.1.now ≤ length tokens.now) }
+) -> (Specifier, &'t [Token])
+    ensures reads { Behind (base_rule sort_is.Unsigned token.now) (λ r. front reader.halves r tokens.now ≡ Ok (result.0, result.1.now)) }
+    ensures shorter { length result.1.now ≤ length tokens.now }
 {
-    let (base, rest) = unsigned_word(reader, tokens)?;
-    Ok((
+    let (base, rest) = unsigned_word(reader, tokens);
+    (
         Specifier {
             base,
             place: token.place,
         },
         rest,
-    ))
+    )
 }
 
 /// The struct of a name.
@@ -145,8 +145,8 @@ pub fn base(reader: Reader, tokens: &[Token]) -> Result<(Specifier, &[Token]), F
             },
             rest,
         )),
-        Sort::Signed => signed_behind(reader, token, rest),
-        Sort::Unsigned => unsigned_behind(reader, token, rest),
+        Sort::Signed => Ok(signed_behind(reader, token, rest)?),
+        Sort::Unsigned => Ok(unsigned_behind(reader, token, rest)),
         Sort::Void => Ok((
             Specifier {
                 base: Base::Void,

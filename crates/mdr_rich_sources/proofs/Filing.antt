@@ -22,16 +22,16 @@ use Rattle.mdr_lower.specs.Lowering.{lowered}
 use Rattle.mdr_meaning.specs.Sides as sides
 use Rattle.mdr_program.specs.declared.parts.Parts.{Parts}
 use Rattle.mdr_program.specs.Parts.{behind_piece, marked, no_parts, number_among, parts_behind, remote, whole}
-use Rattle.mdr_rich_meaning.specs.Law.{lowered_body}
+use Rattle.mdr_rich_sources.specs.LoweringLaw.{lowered_body}
 use Rattle.mdr_rich_sources.specs.Bodies.{Bodies, bodies_behind, bodies_of, with_piece, written}
 use Rattle.mdr_rich_sources.proofs.Matching.{AllMatch, Matches, match_declared, match_defined}
-use Rattle.mdr_sound_code.proofs.Rights.{same_right}
-use Rattle.mdr_sound_code.specs.Knowing.{Knows}
-use Rattle.mdr_sound_bodies.specs.Bodies.{IsComposed}
-use Rattle.mdr_sound_bodies.specs.Rules.{AreSoundRules}
-use Rattle.mdr_sound_bodies.specs.Within.{KnowsDeclarations}
-use Rattle.mdr_sound_bodies.specs.Written.{AreNamed, AreProper}
-use Rattle.mdr_sound_bodies.proofs.Making.{slots_are, slots_many, statements_typed}
+use Rattle.mdr_sound.proofs.Rights.{same_right}
+use Rattle.mdr_sound.specs.Knowing.{Knows}
+use Rattle.mdr_sound.specs.Bodies.{IsComposed}
+use Rattle.mdr_sound.specs.Rules.{AreSoundRules}
+use Rattle.mdr_sound.specs.Within.{KnowsDeclarations}
+use Rattle.mdr_sound.specs.Written.{AreNamed, AreProper}
+use Rattle.mdr_sound.proofs.Making.{slots_are, slots_many, statements_typed}
 use Rattle.mdr_sound.specs.Counting.{Begins}
 use Rattle.mdr_sound.specs.Whole.{HasAll, IsMadeOf, AreDefinesInRange, IsBodyProper, AreBodiesProper}
 use Rattle.mdr_sound.proofs.Along.{Front, IsPlace, first_front, front_behind, known_next, place_at}

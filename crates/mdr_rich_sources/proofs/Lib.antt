@@ -1,3 +1,15 @@
+pub mod Slots
+pub mod Preparing
+pub mod Bounds
+pub mod Forms
+pub mod Quiet
+pub mod Named
+pub mod Flows
+pub mod Turns
+pub mod Switches
+pub mod Lines
+pub mod Keeps
+pub mod WorkedProofs
 pub mod Filing
 pub mod Matching
 pub mod Running

@@ -8,8 +8,8 @@ use Rattle.mdr_meaning.specs.Bodies as plain
 use Rattle.mdr_meaning.specs.Bodies.{body_by, body_from, body_of}
 use Rattle.mdr_meaning.specs.Sides.{Body}
 use Rattle.mdr_program.specs.Parts.{declared, defined}
-use Rattle.mdr_rich_meaning.specs.Expressions.{RichBody}
-use Rattle.mdr_rich_meaning.specs.Law.{IsLoweredBody}
+use Rattle.mdr_rich_sources.specs.Expressions.{RichBody}
+use Rattle.mdr_rich_sources.specs.LoweringLaw.{IsLoweredBody}
 use Rattle.mdr_rich_sources.specs.Bodies.{Bodies, body_at, perhaps, with_body, with_prototype}
 use Rattle.mdr_rich_sources.specs.Laws.{IsLoweredFrom}
 

@@ -8,17 +8,17 @@ use Rattle.mdr_faults.specs.Faults.{Right, after}
 use Rattle.mdr_meaning.specs.Bodies.{started}
 use Rattle.mdr_program.specs.Programs.{program_of, program_right, typed}
 use Rattle.mdr_typing.specs.Profile.{profile_rules}
-use Rattle.mdr_rich_meaning.specs.Bodies.{rich_started}
-use Rattle.mdr_rich_meaning.specs.Expressions.{RichSide}
-use Rattle.mdr_rich_meaning.specs.Law.{IsLowered}
-use Rattle.mdr_rich_meaning.proofs.Keeps.{lowering_keeps_trees}
+use Rattle.mdr_rich_sources.specs.Functions.{rich_started}
+use Rattle.mdr_rich_sources.specs.Expressions.{RichSide}
+use Rattle.mdr_rich_sources.specs.LoweringLaw.{IsLowered}
+use Rattle.mdr_rich_sources.proofs.Keeps.{lowering_keeps_trees}
 use Rattle.mdr_meaning.specs.Sides.{Side}
 use Rattle.mdr_rich_sources.specs.Bodies.{bodies_of, right_or_none, tree_bodies}
 use Rattle.mdr_rich_sources.specs.Laws.{IsLoweredFrom, IsWrittenIn, RunsMeanWhatIsWritten, SourcesAreLowered, SourcesMeanWhatIsWritten}
 use Rattle.mdr_rich_sources.proofs.Filing.{file_matches}
 use Rattle.mdr_rich_sources.proofs.Matching.{all_lowered}
 use Rattle.mdr_rich_sources.proofs.Running.{runs_same}
-use Rattle.mdr_sound_code.proofs.Rights.{after_right, same_right}
+use Rattle.mdr_sound.proofs.Rights.{after_right, same_right}
 use Rattle.mdr_sound.proofs.Filed.{IsFile, file_made, pieces_right}
 use Rattle.mdr_sound.proofs.Itemising.{bytes_proper}
 use Rattle.mdr_sound.proofs.Sourced.{bodies_of as bodies_proper, has_all, ranges_of}

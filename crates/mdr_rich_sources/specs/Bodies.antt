@@ -18,7 +18,7 @@ use Rattle.mdr_program.specs.declared.parts.Parts.{Parts}
 use Rattle.mdr_program.specs.Parts.{behind_piece, marked, no_parts, number_among}
 use Rattle.mdr_meaning.specs.Bodies.{known_of}
 use Rattle.mdr_rich.specs.Folds.{codes_of}
-use Rattle.mdr_rich_meaning.specs.Expressions.{RichBody, RichSide}
+use Rattle.mdr_rich_sources.specs.Expressions.{RichBody, RichSide}
 
 -- ---- bodies by the numbers of their functions
 

@@ -17,7 +17,7 @@ use Rattle.mdr_body.specs.Bodies.{body_rule}
 use Rattle.mdr_meaning.specs.Bodies as plain
 use Rattle.mdr_program.specs.Programs.{program_of}
 use Rattle.mdr_typing.specs.Profile.{profile_rules}
-use Rattle.mdr_rich_meaning.specs.Law.{IsLowered}
+use Rattle.mdr_rich_sources.specs.LoweringLaw.{IsLowered}
 use Rattle.mdr_rich_sources.specs.Bodies.{Bodies, bodies_of, kernel_side, tree_bodies, user_side, whole_side}
 use Rattle.mdr_rich_sources.specs.Runs.{written_run}
 use Rattle.mdr_source.specs.declared.outcome.Source.{Source}

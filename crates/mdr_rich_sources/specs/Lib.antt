@@ -1,3 +1,9 @@
+pub mod Functions
+pub mod Expressions
+pub mod LoweringLaw
+pub mod Statements
+pub mod Waiting
+pub mod Worked
 pub mod Bodies
 pub mod Runs
 pub mod Laws

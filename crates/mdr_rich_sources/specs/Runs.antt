@@ -24,7 +24,7 @@ use Rattle.mdr_plain.specs.Scripts.{Beginning, Did, Enters, Finish, Opens, begun
 use Rattle.mdr_plain.specs.Services.{served}
 use Rattle.mdr_plain.specs.Storage.{accesses, next_serial}
 use Rattle.mdr_plain.specs.World.{World, Ran, Ended, Stopped, Work, after, done, noted}
-use Rattle.mdr_rich_meaning.specs.Bodies.{rich_started}
+use Rattle.mdr_rich_sources.specs.Functions.{rich_started}
 use Rattle.mdr_rich_sources.specs.Bodies.{Bodies, kernel_side, user_side}
 use Rattle.mdr_watched.specs.Driver.{entry_roots, is_user, result_roots, touched_by}
 use Rattle.mdr_watched.specs.Views.{gained, may_touch, opened, renewed, taken, top}

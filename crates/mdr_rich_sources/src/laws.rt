@@ -1,4 +1,4 @@
-// Laws, each as a function that does nothing.
+// Laws of sources, each as a function that does nothing.
 
 ghost use Rattle.mdr_rich_sources.specs.Laws.{RunsMeanWhatIsWritten, SourcesAreLowered, SourcesMeanWhatIsWritten};
 

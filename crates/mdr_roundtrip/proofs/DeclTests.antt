@@ -20,9 +20,9 @@ use Rattle.mdr_syntax.specs.declared.tree.Init.TheOpen.{Init-F}
 use Rattle.mdr_syntax.specs.declared.tree.Init.TheFolds.{map-Init, fold-roll-Init, fold_out-Elem}
 use Rattle.mdr_syntax.specs.declared.tree.Init.TheVariants.{rolls-Const, rolls-Null, rolls-Address, rolls-Text, rolls-List}
 use Rattle.mdr_syntax.specs.declared.tree.Init.TheViews.{roll-Init}
-use Rattle.mdr_reread.specs.Words.{is_word, is_writable, is_base}
-use Rattle.mdr_reread.specs.Printable.{all}
-use Rattle.mdr_reread.specs.Declared.{maybe, is_constant, is_annotation, decl_printable, is_printable_decl, is_field, init_printable, elem_printable, is_printable_init, is_printable_elem}
+use Rattle.mdr_roundtrip.specs.Words.{is_word, is_writable, is_base}
+use Rattle.mdr_roundtrip.specs.Printable.{all}
+use Rattle.mdr_roundtrip.specs.PrintableDeclarations.{maybe, is_constant, is_annotation, decl_printable, is_printable_decl, is_field, init_printable, elem_printable, is_printable_init, is_printable_elem}
 use Rattle.mdr_grammar.specs.declared.parts.Specifier.{Specifier}
 use Rattle.mdr_grammar.specs.Expressions.{text_of}
 use Rattle.mdr_grammar.specs.Declarations.{declared, unnamed, perhaps_named, with_annotation}

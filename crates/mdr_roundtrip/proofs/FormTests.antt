@@ -12,8 +12,8 @@ use Rattle.mdr_syntax.specs.declared.tree.FormWhat.TheOpen.{FormWhat-F}
 use Rattle.mdr_syntax.specs.declared.tree.FormWhat.TheFolds.{map-FormWhat, fold-roll-FormWhat, fold_out-Form}
 use Rattle.mdr_syntax.specs.declared.tree.FormWhat.TheVariants.{rolls-Number, rolls-Null, rolls-Name, rolls-Prefix, rolls-Post, rolls-Cast, rolls-Binary, rolls-Choice, rolls-Subscript, rolls-Member, rolls-Call, rolls-Text, rolls-Base}
 use Rattle.mdr_syntax.specs.declared.tree.FormWhat.TheViews.{roll-FormWhat}
-use Rattle.mdr_reread.specs.Words.{is_word, is_written, is_writable, is_sign, is_prefix, is_step, is_base}
-use Rattle.mdr_reread.specs.Printable.{all, what_printable, form_printable, is_printable_form, is_printable_what}
+use Rattle.mdr_roundtrip.specs.Words.{is_word, is_written, is_writable, is_sign, is_prefix, is_step, is_base}
+use Rattle.mdr_roundtrip.specs.Printable.{all, what_printable, form_printable, is_printable_form, is_printable_what}
 use Rattle.mdr_grammar.specs.Expressions.{form_at}
 use Rattle.mdr_roundtrip.proofs.Bools.{also, all_mapped}
 

@@ -5,11 +5,11 @@ use Rattle.mdr_syntax.specs.declared.token.Lexeme.{Lexeme}
 use Rattle.mdr_syntax.specs.declared.tree.Decl.{Decl}
 use Rattle.mdr_syntax.specs.declared.tree.Item.{Item}
 use Rattle.mdr_syntax.specs.declared.tree.Node.{Node}
-use Rattle.mdr_reread.specs.Words.{is_word, is_written, is_writable, is_sign, is_prefix, is_step, is_base}
-use Rattle.mdr_reread.specs.Printable.{is_printable_form}
-use Rattle.mdr_reread.specs.Declared.{maybe, is_constant, is_annotation, is_printable_decl, is_printable_init, is_printable_elem}
-use Rattle.mdr_reread.specs.Stated.{is_label, is_printable_node, is_printable_clause}
-use Rattle.mdr_reread.specs.Whole.{is_printable_head, is_printable_enumerator, is_defined, is_printable_line}
+use Rattle.mdr_roundtrip.specs.Words.{is_word, is_written, is_writable, is_sign, is_prefix, is_step, is_base}
+use Rattle.mdr_roundtrip.specs.Printable.{is_printable_form}
+use Rattle.mdr_roundtrip.specs.PrintableDeclarations.{maybe, is_constant, is_annotation, is_printable_decl, is_printable_init, is_printable_elem}
+use Rattle.mdr_roundtrip.specs.PrintableStatements.{is_label, is_printable_node, is_printable_clause}
+use Rattle.mdr_roundtrip.specs.Whole.{is_printable_head, is_printable_enumerator, is_defined, is_printable_line}
 use Rattle.mdr_grammar.specs.declared.sort.Sort.{Sort}
 use Rattle.mdr_grammar.specs.Forms.{Part, PartValue, repeated, separated, enclosed, Nonterminal, Value, Right, Rule}
 use Rattle.mdr_grammar.specs.Forms.Part.{operand, expression, argument, statement, body, plain, simple, block_item, opening, local, right, right_side, label, clause, base, specifiers, size, annotation, constant, value, declarator, parameter, field, field_group, enumerator, initial, initialiser, element, global, item}

@@ -2,7 +2,7 @@
 use Rattle.std.proofs.Common.{◌≡◌, refl, subst, Bool, true, List}
 use Rattle.mdr_syntax.specs.declared.token.Lexeme.{Lexeme}
 use Rattle.mdr_syntax.specs.declared.token.Token.{Token}
-use Rattle.mdr_reread.proofs.Tests.{both}
+use Rattle.mdr_roundtrip.proofs.Tests.{both}
 use Rattle.mdr_grammar.specs.declared.sort.Sort.{Sort}
 use Rattle.mdr_grammar.specs.Sorts.{is, sort_of}
 use Rattle.mdr_grammar.specs.Forms.{Nonterminal, Value, Right, ◌>>=◌, Rule, and_then, or_else, where_allowed, Empty}

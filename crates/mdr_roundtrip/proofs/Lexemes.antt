@@ -26,10 +26,10 @@ use Rattle.mdr_syntax.specs.Places.{place_after, first_place}
 use Rattle.mdr_syntax.specs.Quoted.{escape_of, character_at, part_of, with_part, text_from}
 use Rattle.mdr_syntax.specs.Tokens.{is_fresh_after, tokens_of_piece, end_at, tokens_from, tokens_of}
 use Rattle.mdr_syntax.specs.Words.{is_reserved, punctuation, front_len, punctuation_len}
-use Rattle.mdr_reread.specs.Words.{is_word, is_written, is_writable, is_among}
-use Rattle.mdr_reread.specs.Declared.{maybe}
-use Rattle.mdr_reread.specs.Whole.{is_defined}
-use Rattle.mdr_reread.proofs.Tests.{both, or_right}
+use Rattle.mdr_roundtrip.specs.Words.{is_word, is_written, is_writable, is_among}
+use Rattle.mdr_roundtrip.specs.PrintableDeclarations.{maybe}
+use Rattle.mdr_roundtrip.specs.Whole.{is_defined}
+use Rattle.mdr_roundtrip.proofs.Tests.{both, or_right}
 use Rattle.mdr_roundtrip.specs.Lexed.{is_lexed, are_lexed}
 use Rattle.mdr_roundtrip.proofs.Bools.{also, all_joined}
 

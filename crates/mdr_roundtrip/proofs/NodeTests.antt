@@ -14,10 +14,10 @@ use Rattle.mdr_syntax.specs.declared.tree.NodeWhat.TheOpen.{NodeWhat-F}
 use Rattle.mdr_syntax.specs.declared.tree.NodeWhat.TheFolds.{map-NodeWhat, fold-roll-NodeWhat, fold-roll-Clause, fold_out-Node}
 use Rattle.mdr_syntax.specs.declared.tree.NodeWhat.TheVariants.{rolls-Empty, rolls-Block, rolls-Local, rolls-Assign, rolls-Plain, rolls-If, rolls-While, rolls-For, rolls-Do, rolls-Switch, rolls-Return, rolls-Break, rolls-Continue}
 use Rattle.mdr_syntax.specs.declared.tree.NodeWhat.TheViews.{roll-NodeWhat, roll-Clause}
-use Rattle.mdr_reread.specs.Words.{is_sign}
-use Rattle.mdr_reread.specs.Printable.{all, is_printable_form}
-use Rattle.mdr_reread.specs.Declared.{maybe, is_printable_decl}
-use Rattle.mdr_reread.specs.Stated.{is_label, node_what_printable, clause_printable, node_printable, is_printable_node, is_printable_statement, is_printable_clause}
+use Rattle.mdr_roundtrip.specs.Words.{is_sign}
+use Rattle.mdr_roundtrip.specs.Printable.{all, is_printable_form}
+use Rattle.mdr_roundtrip.specs.PrintableDeclarations.{maybe, is_printable_decl}
+use Rattle.mdr_roundtrip.specs.PrintableStatements.{is_label, node_what_printable, clause_printable, node_printable, is_printable_node, is_printable_statement, is_printable_clause}
 use Rattle.mdr_grammar.specs.Statements.{node_at}
 use Rattle.mdr_roundtrip.proofs.Bools.{also, all_mapped}
 

@@ -2,7 +2,7 @@
 use Rattle.std.proofs.Common.{◌≡◌, refl, sym, subst, Bool, true, List}
 use Rattle.mdr_syntax.specs.declared.token.Token.{Token}
 use Rattle.mdr_syntax.specs.declared.tree.Tree.{Tree}
-use Rattle.mdr_reread.specs.Whole.{is_printable_line, is_printable}
+use Rattle.mdr_roundtrip.specs.Whole.{is_printable_line, is_printable}
 use Rattle.mdr_grammar.specs.Sorts.{sort_of}
 use Rattle.mdr_grammar.specs.Grammar.{rule, Reads}
 use Rattle.mdr_roundtrip.specs.Lexed.{are_lexed}

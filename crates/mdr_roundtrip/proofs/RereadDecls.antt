@@ -18,10 +18,10 @@ use Rattle.mdr_print.specs.Marks.{Mark, Marks, blank_unless, separated}
 use Rattle.mdr_print.specs.Spelled.{lexemes}
 use Rattle.mdr_print.specs.Types.{kind_name, base_name, stars as printed_stars}
 use Rattle.mdr_print.specs.Declarations.{Declared, annotated, sized_name, core, is_bare, const_if, is_void_base, parameter_list, whole_of, alone_shown, decl_shown, shown_decl, declaration, declarator as declarator_of}
-use Rattle.mdr_reread.specs.Printable.{all}
-use Rattle.mdr_reread.specs.Declared.{maybe}
-use Rattle.mdr_reread.proofs.Tests.{both}
-use Rattle.mdr_reread.proofs.Parts.{suc_not_zero}
+use Rattle.mdr_roundtrip.specs.Printable.{all}
+use Rattle.mdr_roundtrip.specs.PrintableDeclarations.{maybe}
+use Rattle.mdr_roundtrip.proofs.Tests.{both}
+use Rattle.mdr_roundtrip.proofs.Parts.{suc_not_zero}
 use Rattle.mdr_grammar.specs.declared.parts.Specifier.{Specifier}
 use Rattle.mdr_grammar.specs.declared.sort.Sort.{Sort}
 use Rattle.mdr_grammar.specs.Sorts.{sort_of, words}

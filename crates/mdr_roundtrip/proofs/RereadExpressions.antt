@@ -12,9 +12,9 @@ use Rattle.mdr_print.specs.Marks.{Mark, word as printed_word, number, quoted}
 use Rattle.mdr_print.specs.Types.{type_name}
 use Rattle.mdr_print.specs.Forms.{Shown, plain, literal, what_shown, form_shown, shown_form, shown_what, form}
 use Rattle.mdr_print.specs.Spelled.{lexemes}
-use Rattle.mdr_reread.specs.Words.{is_among, is_written, is_writable, is_prefix, is_step}
-use Rattle.mdr_reread.specs.Printable.{all}
-use Rattle.mdr_reread.proofs.Tests.{both}
+use Rattle.mdr_roundtrip.specs.Words.{is_among, is_written, is_writable, is_prefix, is_step}
+use Rattle.mdr_roundtrip.specs.Printable.{all}
+use Rattle.mdr_roundtrip.proofs.Tests.{both}
 use Rattle.mdr_grammar.specs.Forms.Part.{expression}
 use Rattle.mdr_grammar.specs.Forms.Nonterminal.{part}
 use Rattle.mdr_grammar.specs.Expressions.{height, form_at}

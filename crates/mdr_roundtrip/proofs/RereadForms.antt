@@ -14,7 +14,7 @@ use Rattle.mdr_syntax.specs.declared.tree.FormWhat
 use Rattle.mdr_print.specs.Marks.{Mark, Is, word as printed_word, sign, number, quoted, blank_unless, spaced, in_parentheses as parentheses_around, in_brackets, separated, comma_list, ◌▸◌}
 use Rattle.mdr_print.specs.Types.{kind_name, base_name, stars as printed_stars, type_name}
 use Rattle.mdr_print.specs.Forms.{Shown, marks_of, plain, literal, operator, prefixed, operand as printed_operand, is_apart, owner, member_sign}
-use Rattle.mdr_reread.specs.Words.{is_among, is_prefix, is_step}
+use Rattle.mdr_roundtrip.specs.Words.{is_among, is_prefix, is_step}
 use Rattle.mdr_grammar.specs.declared.parts.Specifier.{Specifier}
 use Rattle.mdr_grammar.specs.declared.sort.Sort.{Sort}
 use Rattle.mdr_grammar.specs.Sorts.{is, sort_of}

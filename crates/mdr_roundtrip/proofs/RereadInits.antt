@@ -16,9 +16,9 @@ use Rattle.mdr_syntax.specs.declared.tree.Init.TheFolds.{ind-Init, map-Init, fol
 use Rattle.mdr_print.specs.Marks.{Mark, Is, Marks, separated, comma_list}
 use Rattle.mdr_print.specs.Spelled.{lexemes}
 use Rattle.mdr_print.specs.Declarations.{constant as printed_constant, designator, init_shown, elem_shown, init, elem}
-use Rattle.mdr_reread.specs.Printable.{all}
-use Rattle.mdr_reread.specs.Declared.{maybe}
-use Rattle.mdr_reread.proofs.Tests.{both}
+use Rattle.mdr_roundtrip.specs.Printable.{all}
+use Rattle.mdr_roundtrip.specs.PrintableDeclarations.{maybe}
+use Rattle.mdr_roundtrip.proofs.Tests.{both}
 use Rattle.mdr_grammar.specs.declared.sort.Sort.{Sort}
 use Rattle.mdr_grammar.specs.Sorts.{is, sort_of, marks}
 use Rattle.mdr_grammar.specs.Forms.{Right, ◌>>=◌, form, and_then}

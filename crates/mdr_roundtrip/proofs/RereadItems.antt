@@ -28,8 +28,8 @@ use Rattle.mdr_print.specs.Declarations.{Declared, annotated, sized_name, core, 
 use Rattle.mdr_print.specs.Statements.{semicolon, lines, closed, block_words, written}
 use Rattle.mdr_print.specs.Items.{field as printed_field, item_words, item_lines}
 use Rattle.mdr_print.specs.Spelled.{spelled}
-use Rattle.mdr_reread.specs.Declared.{maybe}
-use Rattle.mdr_reread.proofs.Tests.{both}
+use Rattle.mdr_roundtrip.specs.PrintableDeclarations.{maybe}
+use Rattle.mdr_roundtrip.proofs.Tests.{both}
 use Rattle.mdr_grammar.specs.declared.sort.Sort.{Sort}
 use Rattle.mdr_grammar.specs.Sorts.{is, sort_of, words}
 use Rattle.mdr_grammar.specs.Forms.{Nonterminal, Value, Right, ◌>>=◌, take, form as whole_form, and_then}

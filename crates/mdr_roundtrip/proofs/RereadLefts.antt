@@ -10,9 +10,9 @@ use Rattle.mdr_syntax.specs.declared.tree.FormWhat.TheOpen.{FormWhat-F}
 use Rattle.mdr_syntax.specs.declared.tree.FormWhat.TheFolds.{ind-Form, map-FormWhat, fold-roll-FormWhat, fold_out-Form}
 use Rattle.mdr_print.specs.Marks.{Mark, Is, sign, comma_list, in_parentheses, ◌▸◌}
 use Rattle.mdr_print.specs.Forms.{Shown, marks_of, plain, prefixed, parenthesised_if, operand as printed_operand, left_of, what_shown, form_shown, shown_form, shown_what, form, left_side}
-use Rattle.mdr_reread.specs.Words.{is_prefix, is_step, steps}
-use Rattle.mdr_reread.specs.Printable.{all}
-use Rattle.mdr_reread.proofs.Tests.{both, among}
+use Rattle.mdr_roundtrip.specs.Words.{is_prefix, is_step, steps}
+use Rattle.mdr_roundtrip.specs.Printable.{all}
+use Rattle.mdr_roundtrip.proofs.Tests.{both, among}
 use Rattle.mdr_grammar.specs.declared.sort.Sort.{Sort}
 use Rattle.mdr_grammar.specs.Sorts.{sort_of, marks}
 use Rattle.mdr_grammar.specs.Forms.Part.{operand}

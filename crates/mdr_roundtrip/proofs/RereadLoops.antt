@@ -26,10 +26,10 @@ use Rattle.mdr_syntax.specs.declared.tree.NodeWhat.TheViews.{roll-Clause}
 use Rattle.mdr_print.specs.Marks.{Mark, Is, Blank, Newline, Marks, nothing as no_marks, blank, row, ◌▸◌}
 use Rattle.mdr_print.specs.Forms.{form}
 use Rattle.mdr_print.specs.Statements.{Written, sole as sole_written, simple as simple_written, clauses_words, semicolon, line_of, lines, closed, braced, clause_head, for_parts, for_test, step_of, head_list, label, label_words, at as at_depth, clause_lines, what_written, clause_written, node_written, written, written_what, written_clause}
-use Rattle.mdr_reread.specs.Words.{is_among}
-use Rattle.mdr_reread.specs.Printable.{all}
-use Rattle.mdr_reread.specs.Declared.{maybe}
-use Rattle.mdr_reread.proofs.Tests.{both}
+use Rattle.mdr_roundtrip.specs.Words.{is_among}
+use Rattle.mdr_roundtrip.specs.Printable.{all}
+use Rattle.mdr_roundtrip.specs.PrintableDeclarations.{maybe}
+use Rattle.mdr_roundtrip.proofs.Tests.{both}
 use Rattle.mdr_grammar.specs.declared.parts.Ended.{Ended}
 use Rattle.mdr_grammar.specs.declared.parts.Specifier.{Specifier}
 use Rattle.mdr_grammar.specs.declared.sort.Sort.{Sort}

@@ -13,8 +13,8 @@ use Rattle.mdr_syntax.specs.declared.tree.Decl.{Decl, roll-Decl}
 use Rattle.mdr_print.specs.Marks.{Mark, Is}
 use Rattle.mdr_print.specs.Types.{stars as printed_stars}
 use Rattle.mdr_print.specs.Declarations.{Declared, annotated, named as printed_name, sized, sized_name, core, is_bare, parameter_list, parameters as printed_parameters}
-use Rattle.mdr_reread.specs.Declared.{maybe}
-use Rattle.mdr_reread.proofs.Tests.{both}
+use Rattle.mdr_roundtrip.specs.PrintableDeclarations.{maybe}
+use Rattle.mdr_roundtrip.proofs.Tests.{both}
 use Rattle.mdr_grammar.specs.declared.parts.Specifier.{Specifier}
 use Rattle.mdr_grammar.specs.declared.sort.Sort.{Sort}
 use Rattle.mdr_grammar.specs.Sorts.{is, sort_of, words}

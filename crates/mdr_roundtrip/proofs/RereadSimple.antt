@@ -20,9 +20,9 @@ use Rattle.mdr_print.specs.Forms.{Shown, what_shown, form_shown, shown_form, sho
 use Rattle.mdr_print.specs.Declarations.{Declared, shown_decl, declaration, declarator as declarator_of}
 use Rattle.mdr_print.specs.Statements.{assigned as printed_value}
 use Rattle.mdr_print.specs.Spelled.{lexemes}
-use Rattle.mdr_reread.specs.Words.{is_among}
-use Rattle.mdr_reread.specs.Declared.{maybe}
-use Rattle.mdr_reread.proofs.Tests.{both, among}
+use Rattle.mdr_roundtrip.specs.Words.{is_among}
+use Rattle.mdr_roundtrip.specs.PrintableDeclarations.{maybe}
+use Rattle.mdr_roundtrip.proofs.Tests.{both, among}
 use Rattle.mdr_grammar.specs.declared.sort.Sort.{Sort}
 use Rattle.mdr_grammar.specs.Sorts.{sort_of, marks}
 use Rattle.mdr_grammar.specs.Forms.{Right, ◌>>=◌, form as whole_form, one, and_then}

@@ -13,9 +13,9 @@ use Rattle.mdr_print.specs.Marks.{Mark, Is, Blank, Newline, Marks, word as print
 use Rattle.mdr_print.specs.Types.{base_name}
 use Rattle.mdr_print.specs.Forms.{form}
 use Rattle.mdr_print.specs.Statements.{Written, semicolon, line_of, lines, closed, braced, clause_head, otherwise, optional, returned}
-use Rattle.mdr_reread.specs.Printable.{all}
-use Rattle.mdr_reread.specs.Declared.{maybe}
-use Rattle.mdr_reread.proofs.Tests.{both}
+use Rattle.mdr_roundtrip.specs.Printable.{all}
+use Rattle.mdr_roundtrip.specs.PrintableDeclarations.{maybe}
+use Rattle.mdr_roundtrip.proofs.Tests.{both}
 use Rattle.mdr_grammar.specs.declared.parts.Ended.{Ended}
 use Rattle.mdr_grammar.specs.declared.parts.Specifier.{Specifier}
 use Rattle.mdr_grammar.specs.declared.sort.Sort.{Sort}

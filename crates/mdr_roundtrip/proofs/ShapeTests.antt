@@ -13,9 +13,9 @@ use Rattle.mdr_syntax.specs.declared.tree.FormWhat.TheOpen.{FormWhat-F}
 use Rattle.mdr_syntax.specs.declared.tree.FormWhat.TheFolds.{map-FormWhat, fold-roll-FormWhat, fold_out-Form}
 use Rattle.mdr_syntax.specs.declared.tree.FormWhat.TheVariants.{rolls-Number, rolls-Null, rolls-Name, rolls-Prefix, rolls-Post, rolls-Cast, rolls-Binary, rolls-Choice, rolls-Subscript, rolls-Member, rolls-Call, rolls-Text, rolls-Base}
 use Rattle.mdr_syntax.specs.declared.tree.FormWhat.TheViews.{roll-FormWhat}
-use Rattle.mdr_reread.specs.Words.{is_among, is_written, is_writable, is_prefix, is_step}
-use Rattle.mdr_reread.specs.Printable.{all}
-use Rattle.mdr_reread.proofs.Tests.{both, or_right}
+use Rattle.mdr_roundtrip.specs.Words.{is_among, is_written, is_writable, is_prefix, is_step}
+use Rattle.mdr_roundtrip.specs.Printable.{all}
+use Rattle.mdr_roundtrip.proofs.Tests.{both, or_right}
 use Rattle.mdr_grammar.specs.Expressions.{form_at, is_level_free, height, highest, may_sink}
 use Rattle.mdr_roundtrip.specs.Shaped.{is_name, services, binaries, is_named_base, are_stars, Shape, argument_of, what_shaped, form_shaped, shape_of, shape_of_what}
 use Rattle.mdr_roundtrip.proofs.Bools.{also}

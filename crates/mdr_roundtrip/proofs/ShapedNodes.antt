@@ -20,10 +20,10 @@ use Rattle.mdr_syntax.specs.declared.tree.NodeWhat.TheOpen.{NodeWhat-F}
 use Rattle.mdr_syntax.specs.declared.tree.NodeWhat.TheFolds.{map-NodeWhat, fold-roll-NodeWhat, fold-roll-Clause, fold_out-Node}
 use Rattle.mdr_syntax.specs.declared.tree.NodeWhat.TheVariants.{rolls-Empty, rolls-Block, rolls-Local, rolls-Assign, rolls-Plain, rolls-If, rolls-While, rolls-For, rolls-Do, rolls-Switch, rolls-Return, rolls-Break, rolls-Continue}
 use Rattle.mdr_syntax.specs.declared.tree.NodeWhat.TheViews.{roll-NodeWhat, roll-Clause, out-NodeWhat, out-Node, roll-out-NodeWhat}
-use Rattle.mdr_reread.specs.Words.{is_among, is_writable}
-use Rattle.mdr_reread.specs.Printable.{all}
-use Rattle.mdr_reread.specs.Declared.{maybe}
-use Rattle.mdr_reread.proofs.Tests.{both, or_right}
+use Rattle.mdr_roundtrip.specs.Words.{is_among, is_writable}
+use Rattle.mdr_roundtrip.specs.Printable.{all}
+use Rattle.mdr_roundtrip.specs.PrintableDeclarations.{maybe}
+use Rattle.mdr_roundtrip.proofs.Tests.{both, or_right}
 use Rattle.mdr_grammar.specs.declared.parts.Ended.{Ended}
 use Rattle.mdr_grammar.specs.declared.parts.Specifier.{Specifier}
 use Rattle.mdr_grammar.specs.Expressions.{is_level_free, form_at}

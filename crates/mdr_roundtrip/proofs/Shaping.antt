@@ -6,8 +6,8 @@ use Rattle.mdr_syntax.specs.declared.token.Lexeme.{Lexeme}
 use Rattle.mdr_syntax.specs.declared.token.Lexeme.TheVariants as lexeme
 use Rattle.mdr_syntax.specs.declared.tree.Form.{Form}
 use Rattle.mdr_syntax.specs.Words.{is_reserved}
-use Rattle.mdr_reread.specs.Words.{is_word, is_written, is_writable, is_among, is_prefix, prefixes, is_step, steps}
-use Rattle.mdr_reread.specs.Declared.{maybe}
+use Rattle.mdr_roundtrip.specs.Words.{is_word, is_written, is_writable, is_among, is_prefix, prefixes, is_step, steps}
+use Rattle.mdr_roundtrip.specs.PrintableDeclarations.{maybe}
 use Rattle.mdr_grammar.specs.declared.sort.Sort.{Sort}
 use Rattle.mdr_core.specs.declared.kind.Kind.TheVariants.{U8, U16, U32, U64, S8, S16, S32, S64}
 use Rattle.mdr_grammar.specs.Sorts.{is, words, marks, sort_in, admitted, unlisted, sort_of}

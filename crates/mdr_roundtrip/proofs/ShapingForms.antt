@@ -13,9 +13,9 @@ use Rattle.mdr_syntax.specs.declared.tree.FormWhat.TheOpen.{FormWhat-F}
 use Rattle.mdr_syntax.specs.declared.tree.FormWhat.TheFolds.{map-FormWhat, fold-roll-FormWhat, fold_out-Form}
 use Rattle.mdr_syntax.specs.declared.tree.FormWhat.TheViews.{roll-FormWhat, out-FormWhat, out-Form, roll-out-FormWhat}
 use Rattle.mdr_syntax.specs.declared.tree.FormWhat.TheVariants.{rolls-Prefix, rolls-Post, rolls-Call}
-use Rattle.mdr_reread.specs.Words.{is_among, is_prefix, is_step}
-use Rattle.mdr_reread.specs.Declared.{maybe}
-use Rattle.mdr_reread.proofs.Tests.{both}
+use Rattle.mdr_roundtrip.specs.Words.{is_among, is_prefix, is_step}
+use Rattle.mdr_roundtrip.specs.PrintableDeclarations.{maybe}
+use Rattle.mdr_roundtrip.proofs.Tests.{both}
 use Rattle.mdr_grammar.specs.declared.parts.Specifier.{Specifier}
 use Rattle.mdr_grammar.specs.declared.sort.Sort.{Sort}
 use Rattle.mdr_grammar.specs.Sorts.{is_level, sort_of}

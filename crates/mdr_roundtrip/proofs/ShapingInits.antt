@@ -14,10 +14,10 @@ use Rattle.mdr_syntax.specs.declared.tree.Init.TheOpen.{Init-F}
 use Rattle.mdr_syntax.specs.declared.tree.Init.TheFolds.{map-Init, fold-roll-Init, fold_out-Elem}
 use Rattle.mdr_syntax.specs.declared.tree.Init.TheVariants.{rolls-Const, rolls-Null, rolls-Address, rolls-Text, rolls-List}
 use Rattle.mdr_syntax.specs.declared.tree.Init.TheViews.{roll-Init}
-use Rattle.mdr_reread.specs.Words.{is_written, is_writable}
-use Rattle.mdr_reread.specs.Printable.{all}
-use Rattle.mdr_reread.specs.Declared.{maybe}
-use Rattle.mdr_reread.proofs.Tests.{both}
+use Rattle.mdr_roundtrip.specs.Words.{is_written, is_writable}
+use Rattle.mdr_roundtrip.specs.Printable.{all}
+use Rattle.mdr_roundtrip.specs.PrintableDeclarations.{maybe}
+use Rattle.mdr_roundtrip.proofs.Tests.{both}
 use Rattle.mdr_grammar.specs.declared.sort.Sort.{Sort}
 use Rattle.mdr_grammar.specs.Sorts.{is, sort_of}
 use Rattle.mdr_grammar.specs.Forms.{Part, PartValue, Enclosed, enclosed, Nonterminal, Value, form}

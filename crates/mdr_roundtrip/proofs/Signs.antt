@@ -13,8 +13,8 @@ use Rattle.mdr_syntax.specs.declared.tree.Form.{Form}
 use Rattle.mdr_syntax.specs.declared.tree.FormWhat
 use Rattle.mdr_syntax.specs.Words.{reserved, is_reserved}
 use Rattle.mdr_print.specs.Types.{kind_name}
-use Rattle.mdr_reread.specs.Words.{is_word, is_among, is_prefix, prefixes, is_step, steps}
-use Rattle.mdr_reread.proofs.Tests.{both, not_true, among}
+use Rattle.mdr_roundtrip.specs.Words.{is_word, is_among, is_prefix, prefixes, is_step, steps}
+use Rattle.mdr_roundtrip.proofs.Tests.{both, not_true, among}
 use Rattle.mdr_grammar.specs.declared.sort.Sort.{Sort}
 use Rattle.mdr_grammar.specs.Sorts.{Word as Listed, words, marks, sort_in, unlisted, admitted, sort_of}
 use Rattle.mdr_grammar.specs.Forms.{◌>>=◌, form, one}

@@ -8,8 +8,8 @@ use Rattle.mdr_core.specs.declared.kind.Kind.TheVariants.{U8, U16, U32, U64, S8,
 use Rattle.mdr_syntax.specs.declared.token.Lexeme.{Lexeme}
 use Rattle.mdr_syntax.specs.declared.token.Lexeme.TheVariants as lexeme
 use Rattle.mdr_syntax.specs.Words.{punctuation, is_reserved}
-use Rattle.mdr_reread.specs.Words.{is_word, is_written, prefixes, steps}
-use Rattle.mdr_reread.proofs.Tests.{both}
+use Rattle.mdr_roundtrip.specs.Words.{is_word, is_written, prefixes, steps}
+use Rattle.mdr_roundtrip.proofs.Tests.{both}
 use Rattle.mdr_grammar.specs.declared.sort.Sort.{Sort}
 use Rattle.mdr_grammar.specs.Sorts.{Word, is, words, marks, sort_in, admitted, unlisted, sort_of}
 use Rattle.mdr_grammar.specs.Expressions.{text_of, number_in, kind_in}

@@ -5,9 +5,9 @@ use Rattle.std.specs.List.{list_all}
 use Rattle.mdr_core.specs.declared.place.Place.{Place}
 use Rattle.mdr_syntax.specs.declared.token.Token.{Token}
 use Rattle.mdr_syntax.specs.declared.tree.Decl.{Decl}
-use Rattle.mdr_reread.specs.Words.{is_word, is_base}
-use Rattle.mdr_reread.specs.Declared.{maybe, is_constant, is_annotation, is_printable_decl, is_printable_init, is_printable_elem}
-use Rattle.mdr_reread.specs.Whole.{is_printable_enumerator}
+use Rattle.mdr_roundtrip.specs.Words.{is_word, is_base}
+use Rattle.mdr_roundtrip.specs.PrintableDeclarations.{maybe, is_constant, is_annotation, is_printable_decl, is_printable_init, is_printable_elem}
+use Rattle.mdr_roundtrip.specs.Whole.{is_printable_enumerator}
 use Rattle.mdr_grammar.specs.declared.parts.Specifier.{Specifier}
 use Rattle.mdr_grammar.specs.declared.sort.Sort.{Sort}
 use Rattle.mdr_grammar.specs.Forms.{◌>>=◌}

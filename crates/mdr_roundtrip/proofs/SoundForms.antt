@@ -6,10 +6,10 @@ use Rattle.mdr_core.specs.declared.place.Place.{Place}
 use Rattle.mdr_syntax.specs.declared.token.Lexeme.{Lexeme}
 use Rattle.mdr_syntax.specs.declared.token.Token.{Token}
 use Rattle.mdr_syntax.specs.declared.tree.Form.{Form}
-use Rattle.mdr_reread.specs.Words.{is_word, is_sign, is_prefix, is_step, is_base}
-use Rattle.mdr_reread.specs.Printable.{is_printable_form}
-use Rattle.mdr_reread.specs.Declared.{maybe}
-use Rattle.mdr_reread.proofs.Tests.{both}
+use Rattle.mdr_roundtrip.specs.Words.{is_word, is_sign, is_prefix, is_step, is_base}
+use Rattle.mdr_roundtrip.specs.Printable.{is_printable_form}
+use Rattle.mdr_roundtrip.specs.PrintableDeclarations.{maybe}
+use Rattle.mdr_roundtrip.proofs.Tests.{both}
 use Rattle.mdr_grammar.specs.declared.parts.Specifier.{Specifier}
 use Rattle.mdr_grammar.specs.declared.sort.Sort.{Sort}
 use Rattle.mdr_grammar.specs.Sorts.{is_level}

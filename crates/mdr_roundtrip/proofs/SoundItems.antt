@@ -12,11 +12,11 @@ use Rattle.mdr_syntax.specs.declared.tree.Init.{Init}
 use Rattle.mdr_syntax.specs.declared.tree.Item.{Item}
 use Rattle.mdr_syntax.specs.declared.tree.ItemWhat.{ItemWhat}
 use Rattle.mdr_syntax.specs.declared.tree.ItemWhat.TheVariants as item_is
-use Rattle.mdr_reread.specs.Words.{is_word, is_base}
-use Rattle.mdr_reread.specs.Printable.{all}
-use Rattle.mdr_reread.specs.Declared.{maybe, is_annotation, is_printable_decl, is_printable_init}
-use Rattle.mdr_reread.specs.Stated.{is_printable_node}
-use Rattle.mdr_reread.specs.Whole.{is_printable_head, is_printable_enumerator, is_printable_item, is_printable_line}
+use Rattle.mdr_roundtrip.specs.Words.{is_word, is_base}
+use Rattle.mdr_roundtrip.specs.Printable.{all}
+use Rattle.mdr_roundtrip.specs.PrintableDeclarations.{maybe, is_annotation, is_printable_decl, is_printable_init}
+use Rattle.mdr_roundtrip.specs.PrintableStatements.{is_printable_node}
+use Rattle.mdr_roundtrip.specs.Whole.{is_printable_head, is_printable_enumerator, is_printable_item, is_printable_line}
 use Rattle.mdr_grammar.specs.declared.parts.Specifier.{Specifier}
 use Rattle.mdr_grammar.specs.declared.sort.Sort.{Sort}
 use Rattle.mdr_grammar.specs.Forms.{form}

@@ -3,9 +3,9 @@ use Rattle.std.proofs.Common.{◌≡◌, refl, Bool, true, List, [], ◌∷◌, 
 use Rattle.std.specs.Prelude.{◌&&◌, nat_lt}
 use Rattle.std.specs.List.{list_all}
 use Rattle.mdr_syntax.specs.declared.token.Token.{Token}
-use Rattle.mdr_reread.specs.Words.{is_word, is_base}
-use Rattle.mdr_reread.specs.Printable.{is_printable_form}
-use Rattle.mdr_reread.proofs.Tests.{both}
+use Rattle.mdr_roundtrip.specs.Words.{is_word, is_base}
+use Rattle.mdr_roundtrip.specs.Printable.{is_printable_form}
+use Rattle.mdr_roundtrip.proofs.Tests.{both}
 use Rattle.mdr_grammar.specs.declared.sort.Sort.{Sort}
 use Rattle.mdr_grammar.specs.Forms.{Part, PartValue, repeated, separated, enclosed, Repeated, Separated, Enclosed, Nonterminal, form}
 use Rattle.mdr_grammar.specs.Forms.Part.{operand, expression, argument, statement, body, plain, simple, block_item, opening, local, right, right_side, label, clause, base, specifiers, size, annotation, constant, value, declarator, parameter, field, field_group, enumerator, initial, initialiser, element, global, item}

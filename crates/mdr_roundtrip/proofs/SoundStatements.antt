@@ -5,10 +5,10 @@ use Rattle.mdr_core.specs.declared.place.Place.{Place}
 use Rattle.mdr_syntax.specs.declared.token.Token.{Token}
 use Rattle.mdr_syntax.specs.declared.tree.Form.{Form}
 use Rattle.mdr_syntax.specs.declared.tree.Node.{Node}
-use Rattle.mdr_reread.specs.Words.{is_sign, is_base}
-use Rattle.mdr_reread.specs.Printable.{is_printable_form}
-use Rattle.mdr_reread.specs.Declared.{maybe, is_printable_decl}
-use Rattle.mdr_reread.specs.Stated.{is_label, is_printable_node, is_printable_clause}
+use Rattle.mdr_roundtrip.specs.Words.{is_sign, is_base}
+use Rattle.mdr_roundtrip.specs.Printable.{is_printable_form}
+use Rattle.mdr_roundtrip.specs.PrintableDeclarations.{maybe, is_printable_decl}
+use Rattle.mdr_roundtrip.specs.PrintableStatements.{is_label, is_printable_node, is_printable_clause}
 use Rattle.mdr_grammar.specs.declared.parts.Ended.{Ended}
 use Rattle.mdr_grammar.specs.declared.parts.Specifier.{Specifier}
 use Rattle.mdr_grammar.specs.declared.sort.Sort.{Sort}

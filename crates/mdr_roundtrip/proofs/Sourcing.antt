@@ -10,8 +10,8 @@ use Rattle.mdr_syntax.specs.declared.tree.Decl.{Decl, out-Decl}
 use Rattle.mdr_syntax.specs.declared.tree.Item.{Item}
 use Rattle.mdr_syntax.specs.declared.tree.Node.{Node}
 use Rattle.mdr_syntax.specs.Words.{is_reserved}
-use Rattle.mdr_reread.specs.Words.{is_among}
-use Rattle.mdr_reread.specs.Declared.{maybe}
+use Rattle.mdr_roundtrip.specs.Words.{is_among}
+use Rattle.mdr_roundtrip.specs.PrintableDeclarations.{maybe}
 use Rattle.mdr_grammar.specs.declared.parts.Ended.{Ended}
 use Rattle.mdr_grammar.specs.declared.parts.Specifier.{Specifier}
 use Rattle.mdr_grammar.specs.declared.sort.Sort.{Sort}

@@ -5,7 +5,7 @@ use Rattle.mdr_syntax.specs.declared.tree.Form.{Form}
 use Rattle.mdr_syntax.specs.declared.tree.FormWhat.{FormWhat}
 use Rattle.mdr_syntax.specs.declared.tree.FormWhat.TheOpen.{Form-F, FormWhat-F}
 use Rattle.mdr_syntax.specs.declared.tree.FormWhat.TheFolds.{fold-Form, fold-FormWhat}
-use Rattle.mdr_reread.specs.Words.{is_step}
+use Rattle.mdr_roundtrip.specs.Words.{is_step}
 
 abbrev pub what_alone : FormWhat-F Bool Bool → Bool
 what_alone (FormWhat-F.Prefix op a) = is_step op

@@ -8,8 +8,8 @@ use Rattle.mdr_syntax.specs.declared.tree.Const.{Const}
 use Rattle.mdr_syntax.specs.declared.tree.Decl.{Decl, roll-Decl}
 use Rattle.mdr_syntax.specs.declared.tree.Decl.TheOpen.{Decl-F}
 use Rattle.mdr_syntax.specs.declared.tree.Decl.TheFolds.{fold-Decl}
-use Rattle.mdr_reread.specs.Printable.{all}
-use Rattle.mdr_reread.specs.Declared.{maybe}
+use Rattle.mdr_roundtrip.specs.Printable.{all}
+use Rattle.mdr_roundtrip.specs.PrintableDeclarations.{maybe}
 use Rattle.mdr_grammar.specs.Expressions.{may_open}
 use Rattle.mdr_roundtrip.specs.Shaped.{is_name, is_named_base, are_stars}
 use Rattle.mdr_roundtrip.specs.Unplaced.{nowhere, unplaced_base}

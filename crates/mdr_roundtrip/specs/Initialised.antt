@@ -10,9 +10,9 @@ use Rattle.mdr_syntax.specs.declared.tree.Init
 use Rattle.mdr_syntax.specs.declared.tree.Init.{Init}
 use Rattle.mdr_syntax.specs.declared.tree.Init.TheOpen.{Init-F, Elem-F}
 use Rattle.mdr_syntax.specs.declared.tree.Init.TheFolds.{fold-Init, fold-Elem}
-use Rattle.mdr_reread.specs.Words.{is_written, is_writable}
-use Rattle.mdr_reread.specs.Printable.{all}
-use Rattle.mdr_reread.specs.Declared.{maybe}
+use Rattle.mdr_roundtrip.specs.Words.{is_written, is_writable}
+use Rattle.mdr_roundtrip.specs.Printable.{all}
+use Rattle.mdr_roundtrip.specs.PrintableDeclarations.{maybe}
 use Rattle.mdr_grammar.specs.Expressions.{may_nest}
 use Rattle.mdr_roundtrip.specs.Shaped.{is_name}
 use Rattle.mdr_roundtrip.specs.Unplaced.{nowhere}

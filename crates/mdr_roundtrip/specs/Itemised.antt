@@ -12,8 +12,8 @@ use Rattle.mdr_syntax.specs.declared.tree.ItemWhat.{ItemWhat}
 use Rattle.mdr_syntax.specs.declared.tree.ItemWhat.TheVariants as item
 use Rattle.mdr_syntax.specs.declared.tree.Node.{Node}
 use Rattle.mdr_syntax.specs.declared.tree.Tree.{Tree}
-use Rattle.mdr_reread.specs.Printable.{all}
-use Rattle.mdr_reread.specs.Declared.{maybe}
+use Rattle.mdr_roundtrip.specs.Printable.{all}
+use Rattle.mdr_roundtrip.specs.PrintableDeclarations.{maybe}
 use Rattle.mdr_grammar.specs.Statements.{are_named}
 use Rattle.mdr_roundtrip.specs.Shaped.{is_name, is_named_base, are_stars}
 use Rattle.mdr_roundtrip.specs.Unplaced.{nowhere, unplaced_base}

@@ -5,8 +5,8 @@ use Rattle.std.specs.List.{list_all}
 use Rattle.mdr_syntax.specs.declared.token.Lexeme.{Lexeme}
 use Rattle.mdr_syntax.specs.declared.token.Lexeme.TheVariants as lexeme
 use Rattle.mdr_syntax.specs.declared.token.Token.{Token}
-use Rattle.mdr_reread.specs.Words.{is_word, is_written, is_writable, is_sign}
-use Rattle.mdr_reread.specs.Whole.{is_defined}
+use Rattle.mdr_roundtrip.specs.Words.{is_word, is_written, is_writable, is_sign}
+use Rattle.mdr_roundtrip.specs.Whole.{is_defined}
 
 abbrev pub is_lexed : Lexeme → Bool
 is_lexed (lexeme.Word text) = is_word text

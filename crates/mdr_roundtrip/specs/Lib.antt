@@ -1,3 +1,9 @@
+pub mod Words
+pub mod Standing
+pub mod Printable
+pub mod PrintableDeclarations
+pub mod PrintableStatements
+pub mod Whole
 pub mod Lexed
 pub mod Unplaced
 pub mod Shaped

@@ -9,8 +9,8 @@ use Rattle.mdr_syntax.specs.declared.tree.FormWhat.{FormWhat}
 use Rattle.mdr_syntax.specs.declared.tree.FormWhat.TheOpen.{Form-F, FormWhat-F}
 use Rattle.mdr_syntax.specs.declared.tree.FormWhat.TheFolds.{fold-Form, fold-FormWhat}
 use Rattle.mdr_syntax.specs.Words.{is_reserved}
-use Rattle.mdr_reread.specs.Words.{is_word, is_written, is_writable, is_among, is_prefix, is_step}
-use Rattle.mdr_reread.specs.Printable.{all}
+use Rattle.mdr_roundtrip.specs.Words.{is_word, is_written, is_writable, is_among, is_prefix, is_step}
+use Rattle.mdr_roundtrip.specs.Printable.{all}
 
 -- a word that isn't reserved
 abbrev pub is_name : List ℕ → Bool

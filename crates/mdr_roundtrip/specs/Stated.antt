@@ -20,9 +20,9 @@ use Rattle.mdr_syntax.specs.declared.tree.NodeWhat.{NodeWhat}
 use Rattle.mdr_syntax.specs.declared.tree.NodeWhat.TheOpen.{NodeWhat-F, Node-F, Clause-F}
 use Rattle.mdr_syntax.specs.declared.tree.NodeWhat.TheFolds.{fold-Node, fold-NodeWhat, fold-Clause}
 use Rattle.mdr_syntax.specs.declared.tree.NodeWhat.TheViews.{roll-Clause}
-use Rattle.mdr_reread.specs.Words.{is_among, is_writable}
-use Rattle.mdr_reread.specs.Printable.{all}
-use Rattle.mdr_reread.specs.Declared.{maybe}
+use Rattle.mdr_roundtrip.specs.Words.{is_among, is_writable}
+use Rattle.mdr_roundtrip.specs.Printable.{all}
+use Rattle.mdr_roundtrip.specs.PrintableDeclarations.{maybe}
 use Rattle.mdr_grammar.specs.Expressions.{is_level_free, height}
 use Rattle.mdr_roundtrip.specs.Shaped.{shape_of}
 use Rattle.mdr_roundtrip.specs.Unplaced.{nowhere, unplaced_form}

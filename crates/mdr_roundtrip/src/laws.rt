@@ -11,7 +11,7 @@ ghost use Rattle.mdr_print.specs.Forms.{form};
 ghost use Rattle.mdr_print.specs.Items.{printed};
 ghost use Rattle.mdr_print.specs.Marks.{Mark};
 ghost use Rattle.mdr_print.specs.Spelled.{GivesLexemes, lexemes, spelled, what_of};
-ghost use Rattle.mdr_reread.specs.Whole.{is_printable};
+ghost use Rattle.mdr_roundtrip.specs.Whole.{is_printable};
 ghost use Rattle.mdr_grammar.specs.Expressions.{height};
 ghost use Rattle.mdr_grammar.specs.Forms.Nonterminal.{part};
 ghost use Rattle.mdr_grammar.specs.Forms.Part.{expression, initialiser};

@@ -5,7 +5,8 @@ ghost use Rattle.std.specs.List.{list_all};
 ghost use Rattle.std.specs.Option.{option_map};
 ghost use Rattle.mdr_syntax.specs.Numbers.{digit_of, is_digit_of};
 ghost use Rattle.mdr_script.specs.Words.{is_empty};
-ghost use Rattle.mdr_script.specs.Numbers.{value_of, hex_digits, is_canonical, hexadecimal_of, decimal_of, number_of, fitted, number_in, reg_at, value_at, count_at, ticks_at, which_at, idle_at, positive, negative, positive_of, negative_of, integer_of};
+ghost use Rattle.mdr_script.specs.Numbers.{value_of, hex_digits, is_canonical, hexadecimal_of, decimal_of, number_of, fitted, number_in, reg_at, value_at};
+ghost use Rattle.mdr_script.specs.Numbers.{count_at, ticks_at, which_at, idle_at, positive, negative, positive_of, negative_of, integer_of};
 
 use crate::words::piece_at;
 

@@ -3,7 +3,8 @@
 ghost use Rattle.std.specs.Prelude.{◌≡◌, ◌++◌, ◌∷◌, length};
 ghost use Rattle.std.specs.Option.{option_map};
 ghost use Rattle.mdr_script.specs.Gives.{Gives};
-ghost use Rattle.mdr_script.specs.Rules.{reg_value, write_at, read_at, tick_at, zero_at, trigger_by, trigger_at, behind_do, some_guard, no_guard, guard_at, set_at, clear_at, put_at, copy_at, start_at, line_effect, effect_by, effect_at, behind_effect, effects_from, effects_at, rule_at};
+ghost use Rattle.mdr_script.specs.Rules.{reg_value, write_at, read_at, tick_at, zero_at, trigger_by, trigger_at, behind_do, some_guard, no_guard, guard_at, set_at};
+ghost use Rattle.mdr_script.specs.Rules.{clear_at, put_at, copy_at, start_at, line_effect, effect_by, effect_at, behind_effect, effects_from, effects_at, rule_at};
 
 use crate::number::{count_at, reg_at, ticks_at, value_at, which_at};
 use crate::unread::Unread;

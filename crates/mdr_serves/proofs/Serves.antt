@@ -123,13 +123,13 @@ pub record GoesOn (d : Driver) (uses : Uses) (fuel budget : ℕ) (script : List 
 
 -- the user half's reply when it has walked n ticks of a tree
 abbrev pub reply_of : (t : ℕ) → (live : List Wire) → Kernel → World → Memory → ℕ → Tree → Delivered
-reply_of t live k w um n tree = replied_to t (serials_of live) (top w.views) k.world.clock.rest k.agreed (walk (guarded (top w.views)) n tree um)
+reply_of t live k w um n tree = replied_to t (serials_of live) (top w.views) k.world.clock.rest k.agreed [] (walk (guarded (top w.views)) n tree um)
 
 -- what the walk and the whole run come to is one end
 abbrev pub ServesBy : Driver → (fuel budget t : ℕ) → List Command → (live : List Wire) → Kernel → World → Walked Memory → Ran Wire → Type 0
 ServesBy d fuel budget t script live k w walked ran =
-    Finishes d fuel budget k.exchanges (next d (Ok (replied_to t (serials_of live) (top w.views) k.world.clock.rest k.agreed walked).reply) k (open_of t live) Noted script)
-    (replied_to t (serials_of live) (top w.views) k.world.clock.rest k.agreed walked).user (ended_at d script ran)
+    Finishes d fuel budget k.exchanges (next d (Ok (replied_to t (serials_of live) (top w.views) k.world.clock.rest k.agreed [] walked).reply) k (open_of t live) Noted script)
+    (replied_to t (serials_of live) (top w.views) k.world.clock.rest k.agreed [] walked).user (ended_at d script ran)
 
 abbrev pub ServesAt : Driver → (fuel budget t : ℕ) → List Command → (live : List Wire) → Tree → Kernel → World → Memory → ℕ → Type 0
 ServesAt d fuel budget t script live tree k w um n = ServesBy d fuel budget t script live k w (walk (guarded (top w.views)) n tree um) (run (in_user d (held d) t may_not) nothing tree w)
@@ -178,28 +178,28 @@ passed_call d t at f args depth w =
 
 -- ---- the user half accepts an honest message
 
-deliver_back : (d : Driver) (uses : Uses) (fuel budget t : ℕ) (KU : Knowledge) (live : List Wire) (copy : Memory) (w : World) (e f : ℕ) (result : Ty) (v : Wire) (told : Told) (seen : List Cell) (goes : Wire → Tree)
+deliver_back : (d : Driver) (uses : Uses) (fuel budget t : ℕ) (KU : Knowledge) (live : List Wire) (copy : Memory) (w : World) (e f : ℕ) (result : Ty) (v : Wire) (told : Told) (depth : ℕ) (goes : Wire → Tree)
     → Messages.Backed d uses budget t KU live copy w e f result v told
-    → deliver d fuel (record { agreed = copy; entered = serials_of live; work = AwaitsBack t f seen goes }) (Ok (message.Back w.clock.rest v told))
+    → deliver d fuel (record { agreed = copy; entered = serials_of live; work = AwaitsBack (record { stub = t; func = f; depth = depth; goes = goes }) [] }) (Ok (message.Back w.clock.rest v told))
     ≡ reply_of t live (waiting d told copy w e) w (agreed_after d.program told copy) w.clock.rest (goes v)
 unfolding deliver opened back_fits
-deliver_back d uses fuel budget t KU live copy w e f result v told seen goes m = rw (m.lives, m.objects, m.result_fits, m.cells, m.view) refl
+deliver_back d uses fuel budget t KU live copy w e f result v told depth goes m = rw (m.lives, m.objects, m.result_fits, m.cells, m.view) refl
 
 deliver_answer : (d : Driver) (uses : Uses) (fuel budget t : ℕ) (KU : Knowledge) (live remains : List Wire) (copy : Memory) (before w : World) (e : ℕ) (asked : Asked) (s : Service) (rs : List Wire) (told : Told) (goes : List Wire → Tree)
     → Answers.Answered d uses budget t KU live remains copy before w e asked s rs told
-    → deliver d fuel (record { agreed = copy; entered = serials_of live; work = AwaitsAnswer t asked (top before.views) before.clock.rest goes }) (Ok (message.Answer rs told.deaths told.news))
+    → deliver d fuel (record { agreed = copy; entered = serials_of live; work = AwaitsAnswer t asked (top before.views) before.clock.rest goes [] }) (Ok (message.Answer rs told.deaths told.news))
     ≡ reply_of t (left_with s remains rs) (waiting d told copy w e) w (agreed_after d.program told copy) w.clock.rest (goes rs)
 unfolding deliver opened answer_fits
 deliver_answer d uses fuel budget t KU live remains copy before w e asked s rs told goes m =
     let C : Memory = agreed_after d.program told copy in
     let lives : List ℕ = entered_behind asked.service told.deaths told.news (serials_of live) in
-    let u : User = record { agreed = copy; entered = serials_of live; work = AwaitsAnswer t asked (top before.views) before.clock.rest goes } in
+    let u : User = record { agreed = copy; entered = serials_of live; work = AwaitsAnswer t asked (top before.views) before.clock.rest goes [] } in
     let accepted : answer_fits d copy (serials_of live) asked rs told.deaths told.news ≡ true = rw (m.lives, m.objects, m.results) refl in
-    ap (λ (b : Bool). user_done u (when_fits b (let copy' : Memory = renewed_copy d.program told.deaths told.news copy in Runs (goes rs) before.clock.rest t lives (grown d t copy' told.news (top before.views)) copy'))) accepted
-    ∙ ap (λ (copy' : Memory). let view : List Cell = grown d t copy' told.news (top before.views) in replied_to t lives view before.clock.rest copy' (walk (guarded view) before.clock.rest (goes rs) copy')) m.lives_alone
-    ∙ ap (λ (view : List Cell). replied_to t lives view before.clock.rest C (walk (guarded view) before.clock.rest (goes rs) C)) m.view
-    ∙ ap (λ (entered : List ℕ). replied_to t entered (top w.views) before.clock.rest C (walk (guarded (top w.views)) before.clock.rest (goes rs) C)) m.counted_user
-    ∙ ap (λ (n : ℕ). replied_to t (serials_of (left_with s remains rs)) (top w.views) n C (walk (guarded (top w.views)) n (goes rs) C)) (sym m.rest)
+    ap (λ (b : Bool). user_done u (when_fits b (let copy' : Memory = renewed_copy d.program told.deaths told.news copy in Runs (goes rs) before.clock.rest t lives (grown d t copy' told.news (top before.views)) copy' []))) accepted
+    ∙ ap (λ (copy' : Memory). let view : List Cell = grown d t copy' told.news (top before.views) in replied_to t lives view before.clock.rest copy' [] (walk (guarded view) before.clock.rest (goes rs) copy')) m.lives_alone
+    ∙ ap (λ (view : List Cell). replied_to t lives view before.clock.rest C [] (walk (guarded view) before.clock.rest (goes rs) C)) m.view
+    ∙ ap (λ (entered : List ℕ). replied_to t entered (top w.views) before.clock.rest C [] (walk (guarded (top w.views)) before.clock.rest (goes rs) C)) m.counted_user
+    ∙ ap (λ (n : ℕ). replied_to t (serials_of (left_with s remains rs)) (top w.views) n C [] (walk (guarded (top w.views)) n (goes rs) C)) (sym m.rest)
 
 -- ---- questions are few, by the tree's first node
 
@@ -455,25 +455,25 @@ module _ (d : Driver) (uses : Uses) (right : IsRight d uses) (fuel budget t : �
   question_stops u credit k w um kind at w' within gone =
       is_over (ends.Stop kind at) (record (resumed k w um) { world = w' }) u (omega (arith, within.bound, gone.later, gone.calls))
 
-  crossed : (KU : Knowledge) (live : List Wire) (credit q r f : ℕ) (result : Ty) (next' : Wire → Tree) (k : Kernel) (w : World) (um : Memory) → w.clock.rest ≤ r → Rel d uses budget t KU live k w um → suc q ≤ credit → IsWithin k w credit
+  crossed : (KU : Knowledge) (live : List Wire) (credit q r f depth : ℕ) (result : Ty) (next' : Wire → Tree) (k : Kernel) (w : World) (um : Memory) → w.clock.rest ≤ r → Rel d uses budget t KU live k w um → suc q ≤ credit → IsWithin k w credit
       → ((K' : Knowledge) → Grows KU K' → (v : Wire) → IsResult d.program K' result v → Served K' live [] q r (next' v))
       → (ran : Ran Wire) → Comes w (λ v w'. Messages.Backed d uses budget t KU live (replied_copy k w um) w' (suc k.exchanges) f result v (telling d (v ∷ []) (replied_copy k w um) w')) ran
       → Finishes d fuel budget k.exchanges (downcalled d ran (resumed k w um) (open_of t live) Noted script)
-      (record { agreed = replied_copy k w um; entered = serials_of live; work = AwaitsBack t f (top w.views) next' })
+      (record { agreed = replied_copy k w um; entered = serials_of live; work = AwaitsBack (record { stub = t; func = f; depth = depth; goes = next' }) [] })
       (ended_at d script (after ran (λ v w'. run (in_user d (held d) t may_not) nothing (next' v) w')))
   unfolding comes_back
-  crossed KU live credit q r f result next' k w um le rel less within later _ (ended v w' gone m) =
+  crossed KU live credit q r f depth result next' k w um le rel less within later _ (ended v w' gone m) =
       let copy : Memory = replied_copy k w um in
       let told : Told = telling d (v ∷ []) copy w' in
       let e : ℕ = suc k.exchanges in
       let k' : Kernel = waiting d told copy w' e in
-      one_more (message.Back w'.clock.rest v told) k' (open_of t live) script (record { agreed = copy; entered = serials_of live; work = AwaitsBack t f (top w.views) next' })
+      one_more (message.Back w'.clock.rest v told) k' (open_of t live) script (record { agreed = copy; entered = serials_of live; work = AwaitsBack (record { stub = t; func = f; depth = depth; goes = next' }) [] })
       (reply_of t live k' w' (agreed_after d.program told copy) w'.clock.rest (next' v)) _
-      (deliver_back d uses fuel budget t KU live copy w' e f result v told (top w.views) next' m)
+      (deliver_back d uses fuel budget t KU live copy w' e f result v told depth next' m)
       (omega (arith, m.rel.total))
       ((later (learns KU told.news) (learns_grows KU told.news) v m.given).by k' w' (agreed_after d.program told copy) w'.clock.rest refl (omega (arith, le, rel.total, m.rel.total, gone.later)) m.rel tt
       (record { bound = omega (arith, less, within.bound, gone.later, gone.calls) }))
-  crossed KU live credit q r f result next' k w um le rel less within later _ (stopped kind at w' gone) = question_stops _ credit k w um kind at w' within gone
+  crossed KU live credit q r f depth result next' k w um le rel less within later _ (stopped kind at w' gone) = question_stops _ credit k w um kind at w' within gone
 
   cross_serves : (KU : Knowledge) (live : List Wire) (fresh : List Birth) (credit q r : ℕ) (at : At) (f : ℕ) (callee : Func) (args : List Wire) (depth : ℕ) (next' : Wire → Tree) → IsStatement d.user at → has_down_stub d f ≡ true
       → IsCall d.program KU callee at.func f args depth → suc q ≤ credit
@@ -482,11 +482,11 @@ module _ (d : Driver) (uses : Uses) (right : IsRight d uses) (fuel budget t : �
   unfolding walk replied run
   cross_serves KU live fresh credit q r at f callee args depth next' place stub crosses less later = record {
     by = λ k w um n e le rel opened within.
-        let u : User = record { agreed = replied_copy k w um; entered = serials_of live; work = AwaitsBack t f (top w.views) next' } in
+        let u : User = record { agreed = replied_copy k w um; entered = serials_of live; work = AwaitsBack (record { stub = t; func = f; depth = depth; goes = next' }) [] } in
         let fin : Finish = ended_at d script (run (in_user d (held d) t may_not) nothing (Tree.Cross at f args depth next') w) in
         subst (λ (x : ℕ). ServesAt d fuel budget t script live (Tree.Cross at f args depth next') k w um x) e
         (subst (λ (p : Pending). Finishes d fuel budget k.exchanges p u fin) (sym (next_down KU live k w um at f callee args depth q rel place stub crosses (record { bound = omega (arith, less, within.bound) })))
-        (crossed KU live credit q r f callee.result next' k w um (omega (arith, e, le)) rel less within later _
+        (crossed KU live credit q r f depth callee.result next' k w um (omega (arith, e, le)) rel less within later _
         (Messages.down_comes d uses budget t KU live k w um at f callee args depth right rel crosses)));
   }
 
@@ -494,7 +494,7 @@ module _ (d : Driver) (uses : Uses) (right : IsRight d uses) (fuel budget t : �
       → ((K' : Knowledge) → Grows KU K' → (rs : List Wire) → IsServed d.program K' asked s rs → Served K' (left_with s remains rs) (fresh_after s asked.shapes rs) q r (next' rs))
       → (ran : Ran (List Wire)) → Comes w (λ rs w'. Answers.Answered d uses budget t KU live remains (replied_copy k w um) w w' (suc k.exchanges) asked s rs (tells d.program [] rs (replied_copy k w um) w'.memory)) ran
       → Finishes d fuel budget k.exchanges (serviced d (as_now w asked) ran (resumed k w um) (open_of t live) Noted script)
-      (record { agreed = replied_copy k w um; entered = serials_of live; work = AwaitsAnswer t asked (top w.views) w.clock.rest next' })
+      (record { agreed = replied_copy k w um; entered = serials_of live; work = AwaitsAnswer t asked (top w.views) w.clock.rest next' [] })
       (ended_at d script (after ran (λ rs w'. run (in_user d (held d) t may_not) nothing (next' rs) w')))
   unfolding answers
   asked_for KU live remains credit q r asked s next' k w um le less within later _ (ended rs w' gone m) =
@@ -502,7 +502,7 @@ module _ (d : Driver) (uses : Uses) (right : IsRight d uses) (fuel budget t : �
       let told : Told = tells d.program [] rs copy w'.memory in
       let e : ℕ = suc k.exchanges in
       let k' : Kernel = waiting d told copy w' e in
-      let u : User = record { agreed = copy; entered = serials_of live; work = AwaitsAnswer t asked (top w.views) w.clock.rest next' } in
+      let u : User = record { agreed = copy; entered = serials_of live; work = AwaitsAnswer t asked (top w.views) w.clock.rest next' [] } in
       let fin : Finish = ended_at d script (run (in_user d (held d) t may_not) nothing (next' rs) w') in
       subst (λ (o : Open). Finishes d fuel budget k.exchanges (Waits (message.Answer rs told.deaths told.news) k' o Noted script) u fin) (sym m.counted_kernel)
       (one_more (message.Answer rs told.deaths told.news) k' (open_of t (left_with s remains rs)) script u
@@ -520,7 +520,7 @@ module _ (d : Driver) (uses : Uses) (right : IsRight d uses) (fuel budget t : �
   unfolding walk replied run
   ask_serves KU live remains fresh credit q r asked s next' place standing numbered ask leaves less later = record {
     by = λ k w um n e le rel opened within.
-        let u : User = record { agreed = replied_copy k w um; entered = serials_of live; work = AwaitsAnswer t asked (top w.views) w.clock.rest next' } in
+        let u : User = record { agreed = replied_copy k w um; entered = serials_of live; work = AwaitsAnswer t asked (top w.views) w.clock.rest next' [] } in
         let fin : Finish = ended_at d script (run (in_user d (held d) t may_not) nothing (Tree.Ask asked next') w) in
         subst (λ (x : ℕ). ServesAt d fuel budget t script live (Tree.Ask asked next') k w um x) e
         (subst (λ (p : Pending). Finishes d fuel budget k.exchanges p u fin) (sym (next_ask KU live remains k w um asked s q rel place standing numbered ask leaves (record { bound = omega (arith, less, within.bound) })))

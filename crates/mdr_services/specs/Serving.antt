@@ -1,12 +1,18 @@
 -- protocol
 -- What the code gives for a question, as definitions have it.
-use Rattle.std.specs.Prelude.{List, Some}
+use Rattle.std.specs.Prelude.{ℕ, List, Some}
 use Rattle.mdr_core.specs.declared.place.At.{At}
+use Rattle.mdr_core.specs.declared.value.Value.{Value}
 use Rattle.mdr_core.specs.Services as services
+use Rattle.mdr_device.specs.Machines.{written}
+use Rattle.mdr_events.specs.declared.event.Asked.{Asked as Question}
+use Rattle.mdr_events.specs.Events.{asked_as}
 use Rattle.mdr_meaning.specs.declared.wire.Wire.{Wire}
 use Rattle.mdr_meaning.specs.Tree.{Asked}
 use Rattle.mdr_events.specs.Values.{wires_of}
-use Rattle.mdr_plain.specs.World.{World, Ran, Ended, Stopped}
+use Rattle.mdr_plain.specs.declared.outcome.Happened.TheVariants as happened
+use Rattle.mdr_plain.specs.Services.{gives_none, with_device}
+use Rattle.mdr_plain.specs.World.{World, Ran, Ended, Stopped, noted}
 use Rattle.mdr_services.specs.declared.answer.Served.{Served}
 use Rattle.mdr_services.specs.declared.answer.Served.TheVariants as served
 use Rattle.mdr_services.specs.declared.service.Service.{Service}
@@ -37,3 +43,10 @@ service_as service.Leave = services.Leave
 -- a question with these arguments in place of its own
 abbrev pub with_args : List Wire → Asked → Asked
 with_args args a = record a { args = args }
+
+abbrev pub asked_with : List Value → Question → Asked
+asked_with args q = with_args (wires_of args) (asked_as q)
+
+-- a word was written to a register
+abbrev pub was_written : (register word : ℕ) → World → Ran (List Wire)
+was_written register word w = gives_none (noted (happened.Wrote register word) (with_device (written register word w.clock.device) w))

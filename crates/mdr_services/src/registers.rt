@@ -2,12 +2,10 @@
 
 ghost use Rattle.std.specs.Prelude.{◌≡◌, IfOk, OnOk};
 ghost use Rattle.mdr_core.specs.declared.place.At.{At as Place};
-ghost use Rattle.mdr_device.specs.Machines.{read, written};
-ghost use Rattle.mdr_meaning.specs.Values.{natural, wire_of};
-ghost use Rattle.mdr_plain.specs.declared.outcome.Happened.TheVariants as happened;
-ghost use Rattle.mdr_plain.specs.Services.{gives_none, register_read, register_written, was_read, with_device};
-ghost use Rattle.mdr_plain.specs.World.{noted};
-ghost use Rattle.mdr_services.specs.Serving.{served_as};
+ghost use Rattle.mdr_device.specs.Machines.{read};
+ghost use Rattle.mdr_meaning.specs.Values.{natural, saturated_u32, wire_of};
+ghost use Rattle.mdr_plain.specs.Services.{register_read, register_written, was_read};
+ghost use Rattle.mdr_services.specs.Serving.{served_as, was_written};
 
 use crate::answer::{Served, nothing, one};
 use crate::arguments::natural;
@@ -46,21 +44,21 @@ pub(crate) fn read_register(
 
 fn write(alloc: Global, world: &mut World, register: u32, word: u32) -> Result<Served, OutOfMemory>
     ensures kept { OnOk result (world.new.program ≡ world.old.program) }
-    ensures served { IfOk result (λ s. (at : Place) → served_as s at world.new.world ≡ gives_none (noted (happened.Wrote register word) (with_device (written register word world.old.world.clock.device) world.old.world))) }
+    ensures served { IfOk result (λ s. (at : Place) → served_as s at world.new.world ≡ was_written register word world.old.world) }
 {
     world.write_register(register, word);
     world.note(Happened::Wrote(register, word))?;
     Ok(nothing(alloc))
 }
 
-/// A word of a register. No argument of a sound program is larger.
-fn word_of(number: u128) -> Result<u32, OutOfMemory>
-    ensures { IfOk result (λ word. word ≡ number) }
+/// A number as a word of a register: the greatest one where it is greater.
+fn word_of(number: u128) -> u32
+    ensures { result ≡ saturated_u32 number }
 {
-    if number < 4294967296 {
-        Ok(number as u32)
+    if number > 4294967295 {
+        4294967295
     } else {
-        Err(OutOfMemory::unmet())
+        number as u32
     }
 }
 
@@ -72,11 +70,11 @@ pub(crate) fn write_register(
     value: Value,
 ) -> Result<Served, OutOfMemory>
     ensures kept { OnOk result (world.new.program ≡ world.old.program) }
-    ensures served { IfOk result (λ s. (at : Place) → served_as s at world.new.world ≡ register_written at (natural (wire_of register)) (natural (wire_of value)) world.old.world) }
+    ensures served { IfOk result (λ s. (at : Place) → served_as s at world.new.world ≡ register_written at (natural (wire_of register)) (saturated_u32 (natural (wire_of value))) world.old.world) }
 {
     let number = natural(register);
     if number < 4096 {
-        let word = word_of(natural(value))?;
+        let word = word_of(natural(value));
         let served = write(alloc, world, number as u32, word)?;
         Ok(served)
     } else {

@@ -3,9 +3,8 @@
 ghost use Rattle.std.specs.Prelude.{◌≡◌, IfOk, OnOk, Some};
 ghost use Rattle.mdr_core.specs.Services.{service_numbered};
 ghost use Rattle.mdr_events.specs.Events.{asked_as};
-ghost use Rattle.mdr_events.specs.Values.{wires_of};
 ghost use Rattle.mdr_plain.specs.Services.{served, served_by};
-ghost use Rattle.mdr_services.specs.Serving.{served_as, service_as, with_args};
+ghost use Rattle.mdr_services.specs.Serving.{asked_with, served_as, service_as};
 
 use crate::allocation::allocate;
 use crate::answer::{Served, nothing};
@@ -31,7 +30,7 @@ fn serve_by(
     service: Service,
 ) -> Result<Served, OutOfMemory>
     ensures kept { OnOk result (world.new.program ≡ world.old.program) }
-    ensures served { IfOk result (λ s. served_as s asked.now.at world.new.world ≡ served_by world.old.program (with_args (wires_of args.now) (asked_as asked.now)) (Some (service_as service)) world.old.world) }
+    ensures served { IfOk result (λ s. served_as s asked.now.at world.new.world ≡ served_by world.old.program (asked_with args.now asked.now) (Some (service_as service)) world.old.world) }
 {
     let served = match service {
         Service::Kzalloc => allocate(alloc, world, asked.shapes.as_slice())?,
@@ -60,7 +59,7 @@ fn serve_with(
     args: &[Value],
 ) -> Result<Served, OutOfMemory>
     ensures kept { OnOk result (world.new.program ≡ world.old.program) }
-    ensures served { IfOk result (λ s. served_as s asked.now.at world.new.world ≡ served_by world.old.program (with_args (wires_of args.now) (asked_as asked.now)) (service_numbered asked.now.service) world.old.world) }
+    ensures served { IfOk result (λ s. served_as s asked.now.at world.new.world ≡ served_by world.old.program (asked_with args.now asked.now) (service_numbered asked.now.service) world.old.world) }
 {
     match numbered(asked.service) {
         Some(service) => {

@@ -15,7 +15,7 @@ use Rattle.mdr_meaning.specs.declared.wire.Wire.{Wire}
 use Rattle.mdr_meaning.specs.declared.wire.Wire.TheVariants as wire
 use Rattle.mdr_meaning.specs.declared.wire.WireView.{WireView}
 use Rattle.mdr_meaning.specs.Tree.{Asked}
-use Rattle.mdr_meaning.specs.Values.{first_of, natural, rest_of}
+use Rattle.mdr_meaning.specs.Values.{first_of, natural, rest_of, saturated_u32}
 use Rattle.mdr_model.specs.declared.memory.Cell.{Cell}
 use Rattle.mdr_model.specs.declared.message.BirthKind.{BirthKind}
 use Rattle.mdr_model.specs.declared.message.BirthKind.TheVariants.{Auto, Heap}
@@ -105,7 +105,7 @@ served_by_effect program a (Some Kzalloc) w = allocated_effect program a (Some K
 served_by_effect program a (Some Kcalloc) w = allocated_effect program a (Some Kcalloc) a.shapes w
 served_by_effect program a (Some Kfree) w = freed_effect program a (Some Kfree) a.at (first_of a.args) w
 served_by_effect program a (Some Readl) w = read_effect program a (Some Readl) a.at (natural (first_of a.args)) w
-served_by_effect program a (Some Writel) w = written_effect program a (Some Writel) a.at (natural (first_of (rest_of a.args))) (natural (first_of a.args)) w
+served_by_effect program a (Some Writel) w = written_effect program a (Some Writel) a.at (natural (first_of (rest_of a.args))) (saturated_u32 (natural (first_of a.args))) w
 served_by_effect program a (Some Printk) w = nothing program a (Some Printk) w w.clock _
 served_by_effect program a (Some RequestIrq) w = requested_effect program a (Some RequestIrq) w.kept.handler (first_of a.args) w
 served_by_effect program a (Some FreeIrq) w = nothing program a (Some FreeIrq) w w.clock _

@@ -1,6 +1,7 @@
 // Laws, each as a function that does nothing.
 
-ghost use Rattle.mdr_shows.specs.Laws.{AccessesAreShared, AnswersGrowSets, DeathsLeaveSets, KernelCodeMayFollow, MembershipIsOne, RunsAreSets, ServicesKeepSets, SetsAreCopied, SetsAreOpen, VisibleMayBeShown};
+ghost use Rattle.mdr_shows.specs.Laws.{AccessesAreShared, AnswersGrowSets, DeathsLeaveSets, KernelCodeMayFollow, MembershipIsOne};
+ghost use Rattle.mdr_shows.specs.Laws.{RunsAreSets, ServicesKeepSets, SetsAreCopied, SetsAreOpen, VisibleMayBeShown};
 
 /// The memories that a split run compares, and the sets that annotations give, ask in two ways whether a cell is in a set.
 pub fn membership_is_one()

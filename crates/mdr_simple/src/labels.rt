@@ -6,14 +6,14 @@ ghost use Rattle.mdr_grammar.specs.Forms.Repeated.{labels as some_labels};
 ghost use Rattle.mdr_grammar.specs.Forms.Nonterminal.{part, option, many};
 ghost use Rattle.mdr_grammar.specs.Front.{first, front};
 ghost use Rattle.mdr_grammar.specs.Statements.{label_rule};
-ghost use Rattle.mdr_reader.specs.Gives.{Gives, Behind};
+ghost use Rattle.mdr_reader.specs.Gives.{Gives, Tells, Behind};
 ghost use Rattle.mdr_reader.specs.declared.failure.Failure.TheVariants.{Memory};
 ghost use Rattle.mdr_grammar.specs.declared.sort.Sort.TheVariants as sort_is;
 
 use mdr_core::Items;
 use mdr_grammar::sort::Sort;
 use mdr_reader::constants::constant;
-use mdr_reader::failure::Failure;
+use mdr_reader::failure::{Failure, Refused};
 use mdr_reader::look::{Reader, split, take};
 use mdr_reader::openings::perhaps;
 use mdr_syntax::{Label, Token};
@@ -43,8 +43,8 @@ fn default_behind<'t>(
     reader: Reader,
     tokens: &'t [Token],
     word: &Token,
-) -> Result<(Label, &'t [Token]), Failure>
-    ensures reads { Behind (label_rule sort_is.Default word.now) (λ r. Gives (λ x. x.0) (λ x. x.1.now) result (front reader.halves r tokens.now)) }
+) -> Result<(Label, &'t [Token]), Refused>
+    ensures reads { Behind (label_rule sort_is.Default word.now) (λ r. Tells (λ x. x.0) (λ x. x.1.now) result (front reader.halves r tokens.now)) }
     ensures shorter { IfOk result (λ x. length x.1.now < length tokens.now) }
 {
     let (_, rest) = take(reader.halves, Sort::Colon, tokens)?;
@@ -67,7 +67,7 @@ pub fn label(reader: Reader, tokens: &[Token]) -> Result<(Label, &[Token]), Fail
     };
     match sort {
         Sort::Case => case_behind(reader, rest, token),
-        Sort::Default => default_behind(reader, rest, token),
+        Sort::Default => Ok(default_behind(reader, rest, token)?),
         _ => Err(Failure::Fault(tokens.len())),
     }
 }

@@ -9,7 +9,7 @@ ghost use Rattle.mdr_grammar.specs.Front.{first, front, and_read};
 ghost use Rattle.mdr_grammar.specs.Statements.{leaving_by, keyword_rule, simple_statement_in, semicolon_behind, locals_rule};
 ghost use Rattle.mdr_simple.specs.Behind.{ended_of, ended_by as ends_by, done, while_behind, after_condition};
 ghost use Rattle.mdr_simple.specs.Others.{GoesOn};
-ghost use Rattle.mdr_reader.specs.Gives.{Gives, Behind, read_by};
+ghost use Rattle.mdr_reader.specs.Gives.{Gives, Tells, Behind, read_by};
 ghost use Rattle.mdr_grammar.specs.declared.sort.Sort.TheVariants as sort_is;
 
 use crate::conditions::condition;
@@ -20,7 +20,7 @@ use crate::simple::{form_option, simple};
 use mdr_core::{Boxed, Items, Place};
 use mdr_grammar::parts::Ended;
 use mdr_grammar::sort::Sort;
-use mdr_reader::failure::Failure;
+use mdr_reader::failure::{Failure, Refused};
 use mdr_reader::look::{Reader, is_level_free, past, take};
 use mdr_syntax::{Form, Node, Token};
 
@@ -30,8 +30,8 @@ pub fn ended_by(
     sort: Sort,
     tokens: &[Token],
     node: Node,
-) -> Result<(Ended, &[Token]), Failure>
-    ensures reads { Gives (λ x. x.0) (λ x. x.1.now) result (front reader.halves (ends_by sort node) tokens.now) }
+) -> Result<(Ended, &[Token]), Refused>
+    ensures reads { Tells (λ x. x.0) (λ x. x.1.now) result (front reader.halves (ends_by sort node) tokens.now) }
     ensures shorter { IfOk result (λ x. length x.1.now < length tokens.now) }
 {
     match take(reader.halves, sort, tokens) {
@@ -48,8 +48,8 @@ pub fn break_behind(
     reader: Reader,
     tokens: &[Token],
     place: Place,
-) -> Result<(Ended, &[Token]), Failure>
-    ensures reads { Gives (λ x. x.0) (λ x. x.1.now) result (front reader.halves (leaving_by place node_is.Break) tokens.now) }
+) -> Result<(Ended, &[Token]), Refused>
+    ensures reads { Tells (λ x. x.0) (λ x. x.1.now) result (front reader.halves (leaving_by place node_is.Break) tokens.now) }
     ensures shorter { IfOk result (λ x. length x.1.now < length tokens.now) }
 {
     ended_by(reader, Sort::Semicolon, tokens, break_node(place))
@@ -60,8 +60,8 @@ pub fn continue_behind(
     reader: Reader,
     tokens: &[Token],
     place: Place,
-) -> Result<(Ended, &[Token]), Failure>
-    ensures reads { Gives (λ x. x.0) (λ x. x.1.now) result (front reader.halves (leaving_by place node_is.Continue) tokens.now) }
+) -> Result<(Ended, &[Token]), Refused>
+    ensures reads { Tells (λ x. x.0) (λ x. x.1.now) result (front reader.halves (leaving_by place node_is.Continue) tokens.now) }
     ensures shorter { IfOk result (λ x. length x.1.now < length tokens.now) }
 {
     ended_by(reader, Sort::Semicolon, tokens, continue_node(place))
@@ -96,12 +96,12 @@ pub fn return_behind<'t>(
     ensures shorter { IfOk result (λ x. length x.1.now < length tokens.now) }
 {
     let (value, rest) = value_option(reader, tokens, level)?;
-    ended_by(
+    Ok(ended_by(
         reader,
         Sort::Semicolon,
         rest,
         return_node(word.place, value),
-    )
+    )?)
 }
 
 /// An assignment or a call, and its semicolon.
@@ -115,7 +115,7 @@ pub fn simple_statement(
     ensures shorter { IfOk result (λ x. length x.1.now < length tokens.now) }
 {
     let (node, rest) = simple(reader, tokens, level, 0)?;
-    ended_by(reader, Sort::Semicolon, rest, node)
+    Ok(ended_by(reader, Sort::Semicolon, rest, node)?)
 }
 
 /// A declaration of locals and its semicolon.
@@ -146,7 +146,7 @@ fn do_condition(
     ensures shorter { IfOk result (λ x. length x.1.now < length tokens.now) }
 {
     let (test, rest) = condition(reader, tokens, level)?;
-    ended_by(reader, Sort::Semicolon, rest, do_node(place, body, test))
+    Ok(ended_by(reader, Sort::Semicolon, rest, do_node(place, body, test))?)
 }
 
 /// What stands behind the body of a `do`.

@@ -8,14 +8,14 @@ ghost use Rattle.mdr_grammar.specs.Forms.Nonterminal.{part, option, assignment a
 ghost use Rattle.mdr_grammar.specs.Forms.Empty.{may};
 ghost use Rattle.mdr_grammar.specs.Front.{first, front, nothing_at};
 ghost use Rattle.mdr_grammar.specs.Statements.{node_at, assigned as an_assigned, simple_in as in_simple, assignment_rule};
-ghost use Rattle.mdr_reader.specs.Gives.{Gives, Behind, read_from};
+ghost use Rattle.mdr_reader.specs.Gives.{Gives, Tells, Behind, read_from};
 ghost use Rattle.mdr_reader.specs.declared.failure.Failure.TheVariants.{Memory};
 
 use mdr_core::{Boxed, Place};
 use mdr_expression::operands::operand;
 use mdr_expression::operators::expression;
 use mdr_grammar::sort::Sort;
-use mdr_reader::failure::Failure;
+use mdr_reader::failure::{Failure, Refused};
 use mdr_reader::look::{Reader, copied, is_level_free, split, text_of};
 use mdr_reader::openings::perhaps;
 use mdr_syntax::{Form, Node, NodeWhat, Token};
@@ -94,8 +94,8 @@ fn alone(
     first: Place,
     form: Boxed<Form>,
     is_alone: bool,
-) -> Result<(Node, &[Token]), Failure>
-    ensures reads { Gives (λ x. x.0) (λ x. x.1.now) result (nothing_at (may is_alone (node_at first (node_is.Plain form))) tokens.now) }
+) -> Result<(Node, &[Token]), Refused>
+    ensures reads { Tells (λ x. x.0) (λ x. x.1.now) result (nothing_at (may is_alone (node_at first (node_is.Plain form))) tokens.now) }
     ensures shorter { IfOk result (λ x. length x.1.now ≤ length tokens.now) }
 {
     if is_alone {
@@ -107,7 +107,7 @@ fn alone(
             tokens,
         ))
     } else {
-        Err(Failure::Fault(tokens.len()))
+        Err(Refused { left: tokens.len() })
     }
 }
 
@@ -145,12 +145,12 @@ fn assignment_by(
     ensures shorter { IfOk result (λ x. length x.1.now ≤ length tokens.now) }
 {
     let Some((sort, token, rest)) = split(reader.halves, tokens) else {
-        return alone(tokens, place, left, is_alone);
+        return Ok(alone(tokens, place, left, is_alone)?);
     };
     match sort {
         Sort::Equals => assigned(reader, rest, token, place, left, level, depth),
         Sort::Compound => assigned(reader, rest, token, place, left, level, depth),
-        _ => alone(tokens, place, left, is_alone),
+        _ => Ok(alone(tokens, place, left, is_alone)?),
     }
 }
 

@@ -3,7 +3,8 @@
 ghost use Rattle.std.specs.Prelude.{◌≡◌, ◌++◌, OnOk};
 ghost use Rattle.std.specs.Prelude.{IfOk, map};
 ghost use Rattle.mdr_core.specs.Folds.{lvalue_of, term_of, called_of, call_of, goal_of, code_of, codes_of};
-ghost use Rattle.mdr_slice.specs.Calls.{value_names, term_names, lvalue_names, all_term_names, called_names, call_names, goal_names, option_names, code_names, all_code_names, body_code, body_names, values_names, global_names, names_of};
+ghost use Rattle.mdr_slice.specs.Calls.{value_names, term_names, lvalue_names, all_term_names, called_names, call_names, goal_names, option_names};
+ghost use Rattle.mdr_slice.specs.Calls.{code_names, all_code_names, body_code, body_names, values_names, global_names, names_of};
 ghost use Rattle.std.specs.Option.{option_map};
 
 use mdr_core::{CallForm, Callee, Expr, Func, GlobalDef, Lval, Program, Step, Stmt, Value};

@@ -8,7 +8,7 @@ use Rattle.mdr_check.specs.declared.file.Piece.{Piece}
 use Rattle.mdr_check.specs.Files.{BodyRule, item_piece, behind_item, pieces_behind, known_behind, first_known}
 use Rattle.mdr_program.specs.declared.parts.Parts.{Parts}
 use Rattle.mdr_program.specs.Parts.{behind_piece, parts_behind, no_parts}
-use Rattle.mdr_sound_code.proofs.Rights.{same_right}
+use Rattle.mdr_sound.proofs.Rights.{same_right}
 use Rattle.mdr_sound.specs.Counting.{Counts, Begins}
 use Rattle.mdr_sound.proofs.CountedItems.{counted_by}
 use Rattle.mdr_sound.proofs.Extending.{Pieces, pieces_parted, structs_begin, variables_begin, functions_begin}

@@ -33,12 +33,12 @@ use Rattle.mdr_faults.specs.Declarations.{is_same_name, number_constant}
 use Rattle.mdr_faults.specs.Faults.{Checked, Right, refuse}
 use Rattle.mdr_faults.specs.Scopes.{entity_named}
 use Rattle.mdr_headings.specs.Annotations.{is_integer, is_integer_by, as_length, entity_constant, named_constant, entity_global, named_global, sibling_named, has_sibling, no_length, or_global, or_sibling, or_constant, array_length, field_suits, sentinel_at, field_named, sentinel_among, target_by, array_on, sentinel_of, sentinel_on, is_character_by, is_character_kind, points_to_characters, is_data_pointer, is_data_pointer_by, suits_if, annotated}
-use Rattle.mdr_sound_code.proofs.Rights.{same_right, chosen_right, not_right}
-use Rattle.mdr_sound_code.specs.Knowing.{IsKnownGlobal}
-use Rattle.mdr_sound_code.proofs.Alike.{left_of, right_of}
+use Rattle.mdr_sound.proofs.Rights.{same_right, chosen_right, not_right}
+use Rattle.mdr_sound.specs.Knowing.{IsKnownGlobal}
+use Rattle.mdr_sound.proofs.Alike.{left_of, right_of}
 use Rattle.mdr_sound.specs.Declared.{SeesSiblings}
 use Rattle.mdr_sound.specs.Standing.{Stands, IsScalarField}
-use Rattle.mdr_sound_code.proofs.Layers.{ptr_from, struct_from, int_from, void_ptr_from}
+use Rattle.mdr_sound.proofs.Layers.{ptr_from, struct_from, int_from, void_ptr_from}
 
 -- ---- integers, and what pointers point to
 

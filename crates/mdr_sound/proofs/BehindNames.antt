@@ -8,7 +8,7 @@ use Rattle.mdr_faults.specs.declared.scope.Named.{Named}
 use Rattle.mdr_faults.specs.declared.scope.Scope.{Scope}
 use Rattle.mdr_faults.specs.Enums.{with_name}
 use Rattle.mdr_faults.specs.Scopes.{entity_among, entity_named, or_else}
-use Rattle.mdr_sound_code.specs.Knowing.{IsKnownEntity}
+use Rattle.mdr_sound.specs.Knowing.{IsKnownEntity}
 use Rattle.mdr_sound.specs.Standing.{Stands}
 
 -- the first of some, and of one more behind them

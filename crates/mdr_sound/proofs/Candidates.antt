@@ -7,7 +7,7 @@ use Rattle.mdr_faults.specs.declared.scope.Scope.{Scope}
 use Rattle.mdr_faults.specs.Declarations.{Declarator, declarator}
 use Rattle.mdr_faults.specs.Faults.{Right, told}
 use Rattle.mdr_headings.specs.Annotations.{is_integer, candidate, candidate_by}
-use Rattle.mdr_sound_bodies.proofs.Scoping.{same_declarator}
+use Rattle.mdr_sound.proofs.Scoping.{same_declarator}
 
 pub candidate_integer : (scope : Scope) (d : Decl) (t : Ty) → (declarator scope d).whole ≡ Right t → (candidate scope d).is_integer ≡ (is_integer t && not (is_some (out-Decl d).size))
 unfolding candidate

@@ -8,7 +8,7 @@ use Rattle.mdr_faults.specs.declared.scope.Scope.{Scope}
 use Rattle.mdr_faults.specs.Faults.{Right}
 use Rattle.mdr_headings.specs.Annotations.{candidate}
 use Rattle.mdr_headings.specs.Structs.{field_among, fields_behind, member, struct_entry, struct_fields, struct_rule, struct_size}
-use Rattle.mdr_sound_code.proofs.Rights.{not_right, same_right, after_right, both_right}
+use Rattle.mdr_sound.proofs.Rights.{not_right, same_right, after_right, both_right}
 
 counted : {A B : Type 0} (f : A → B) (xs : List A) → length (map f xs) ≡ length xs
 counted f [] = refl

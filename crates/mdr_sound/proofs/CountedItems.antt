@@ -36,8 +36,8 @@ use Rattle.mdr_check.specs.Files.{BodyRule, item_piece, behind_item, behind_head
 use Rattle.mdr_check.specs.Globals.{global, global_object, global_means, behind_global}
 use Rattle.mdr_program.specs.declared.parts.Parts.{Parts}
 use Rattle.mdr_program.specs.Parts.{flagged, marked, remote, whole, number_among, declared, defined, behind_piece}
-use Rattle.mdr_sound_code.proofs.Alike.{alike_same, left_of, right_of}
-use Rattle.mdr_sound_code.proofs.Rights.{after_right, both_right, demand_right, same_right}
+use Rattle.mdr_sound.proofs.Alike.{alike_same, left_of, right_of}
+use Rattle.mdr_sound.proofs.Rights.{after_right, both_right, demand_right, same_right}
 use Rattle.mdr_sound.specs.Counting.{heading_type, IsDeclaredAs, AreDeclaredAs, Counts}
 use Rattle.mdr_sound.proofs.Declaring.{Agrees, defined_again, declared_again, defined_first, declared_first}
 use Rattle.mdr_sound.proofs.Named.{found_at, found_more, found_last, same_bytes, bytes_same}

@@ -19,8 +19,8 @@ use Rattle.mdr_faults.specs.Declarations.{constant, enumerated, enumerator_value
 use Rattle.mdr_faults.specs.Enums.{with_name, constant_means, value_behind, behind_enumerator, behind_enumerators}
 use Rattle.mdr_faults.specs.Faults.{Checked, Right, again, told}
 use Rattle.mdr_faults.specs.Scopes.{or_else, entity_among, entity_named}
-use Rattle.mdr_sound_code.specs.Knowing.{IsKnownEntity}
-use Rattle.mdr_sound_code.proofs.Rights.{after_right, chosen_right, same_right, told_right}
+use Rattle.mdr_sound.specs.Knowing.{IsKnownEntity}
+use Rattle.mdr_sound.proofs.Rights.{after_right, chosen_right, same_right, told_right}
 use Rattle.mdr_sound.specs.Standing.{Stands}
 
 -- ---- a name more

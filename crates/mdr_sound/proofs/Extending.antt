@@ -14,7 +14,7 @@ use Rattle.mdr_check.specs.declared.file.Piece.TheVariants as piece
 use Rattle.mdr_check.specs.Files.{BodyRule, item_piece, behind_item, pieces_behind, known_behind}
 use Rattle.mdr_program.specs.declared.parts.Parts.{Parts}
 use Rattle.mdr_program.specs.Parts.{behind_piece, parts_behind}
-use Rattle.mdr_sound_code.proofs.Rights.{both_right, same_right}
+use Rattle.mdr_sound.proofs.Rights.{both_right, same_right}
 use Rattle.mdr_sound.specs.Counting.{Begins}
 
 -- ---- lists that begin others

@@ -10,7 +10,7 @@ use Rattle.mdr_check.specs.Uses.{UseRule, defined_functions}
 use Rattle.mdr_check.specs.Whole.{kept, named, file_pieces}
 use Rattle.mdr_program.specs.Parts.{parts_behind, no_parts}
 use Rattle.mdr_program.specs.Programs.{made, program_of, program_right, typed}
-use Rattle.mdr_sound_code.proofs.Rights.{after_right, both_right, same_right}
+use Rattle.mdr_sound.proofs.Rights.{after_right, both_right, same_right}
 use Rattle.mdr_sound.specs.FileLaws.{TypesOfFilesAreFormed, FilesAreSound}
 use Rattle.mdr_sound.specs.Whole.{IsMadeOf}
 use Rattle.mdr_sound.proofs.Forming.{types_formed}

@@ -35,13 +35,13 @@ use Rattle.mdr_body.specs.Statements.{Rules}
 use Rattle.mdr_lower.specs.Tables.{Occurs}
 use Rattle.mdr_program.specs.declared.parts.Parts.{Parts}
 use Rattle.mdr_program.specs.Parts.{marked, remote, whole, behind_piece, parts_behind, no_parts}
-use Rattle.mdr_sound_code.specs.Knowing.{IsFormed, Knows}
-use Rattle.mdr_sound_bodies.specs.Allocating.{ArePlainFormed}
-use Rattle.mdr_sound_bodies.specs.Bodies.{IsComposed}
-use Rattle.mdr_sound_bodies.specs.Rules.{AreSoundRules}
-use Rattle.mdr_sound_bodies.specs.Within.{KnowsDeclarations}
-use Rattle.mdr_sound_bodies.specs.Written.{AreNamed, AreProper}
-use Rattle.mdr_sound_bodies.proofs.Making.{allocations_formed, locals_formed}
+use Rattle.mdr_sound.specs.Knowing.{IsFormed, Knows}
+use Rattle.mdr_sound.specs.Allocating.{ArePlainFormed}
+use Rattle.mdr_sound.specs.Bodies.{IsComposed}
+use Rattle.mdr_sound.specs.Rules.{AreSoundRules}
+use Rattle.mdr_sound.specs.Within.{KnowsDeclarations}
+use Rattle.mdr_sound.specs.Written.{AreNamed, AreProper}
+use Rattle.mdr_sound.proofs.Making.{allocations_formed, locals_formed}
 use Rattle.mdr_sound.specs.Counting.{Begins}
 use Rattle.mdr_sound.specs.Standing.{Stands}
 use Rattle.mdr_sound.specs.Whole.{IsMadeOf, AreDefinesInRange, IsBodyProper, AreBodiesProper}

@@ -19,7 +19,7 @@ use Rattle.mdr_headings.specs.declared.body.Body.{Body}
 use Rattle.mdr_headings.specs.declared.head.Heading.{Heading}
 use Rattle.mdr_headings.specs.Functions.{is_same_length, is_same_ann, is_same_param, are_same_params, is_same_heading}
 use Rattle.mdr_program.specs.Parts.{flagged, marked, remote, whole}
-use Rattle.mdr_sound_code.proofs.Alike.{left_of, right_of, alike_same}
+use Rattle.mdr_sound.proofs.Alike.{left_of, right_of, alike_same}
 use Rattle.mdr_sound.specs.Declared.{IsSoundHeading}
 
 -- ---- parameters that are objects

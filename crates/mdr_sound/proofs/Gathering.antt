@@ -2,7 +2,7 @@
 use Rattle.std.proofs.Common.{◌≡◌, ℕ, zero, suc, List, [], ◌∷◌, ◌++◌, length, Some, slice_get, refl, sym, ap, subst, ◌∙◌}
 use Rattle.mdr_core.proofs.Viewed.{some_same}
 use Rattle.mdr_faults.specs.Faults.{Checked, Right, next}
-use Rattle.mdr_sound_code.proofs.Rights.{both_right, same_right}
+use Rattle.mdr_sound.proofs.Rights.{both_right, same_right}
 
 -- two lists of one length, item by item
 abbrev pub Pairwise : {D X : Type 0} → (D → X → Type 0) → List D → List X → Type 0

@@ -23,10 +23,10 @@ use Rattle.mdr_typing.specs.declared.source.Source.TheVariants as source
 use Rattle.mdr_typing.specs.Becoming.{becomes}
 use Rattle.mdr_typing.specs.Sources.{call_as, value_to, call_to, source_stored, value_back, call_back, source_returned}
 use Rattle.mdr_typing.proofs.Becomings.{becomes_exactly}
-use Rattle.mdr_sound_code.proofs.Converted.{converted_known}
-use Rattle.mdr_sound_code.proofs.Rights.{same_right, after_right, chosen_right}
-use Rattle.mdr_sound_bodies.specs.Rules.{IsSoundStep}
-use Rattle.mdr_sound_bodies.proofs.Entering.{scalar_is}
+use Rattle.mdr_sound.proofs.Converted.{converted_known}
+use Rattle.mdr_sound.proofs.Rights.{same_right, after_right, chosen_right}
+use Rattle.mdr_sound.specs.Rules.{IsSoundStep}
+use Rattle.mdr_sound.proofs.Entering.{scalar_is}
 use Rattle.mdr_sound.proofs.Standing.{IsKnownSource}
 use Rattle.mdr_sound.proofs.Stepping.{assign_sound, return_sound, call_sound, return_call_sound}
 

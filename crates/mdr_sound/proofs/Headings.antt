@@ -23,8 +23,8 @@ use Rattle.mdr_headings.specs.Annotations.{annotated, bare, candidate, is_intege
 use Rattle.mdr_headings.specs.Heads.{param_of, annotated_param, param_among, params_behind, given_by, annotated_result, head_result, typed_result, given, heading_of, result_siblings, heading}
 use Rattle.mdr_headings.specs.Within.{names_around, within}
 use Rattle.mdr_headings.specs.Source.{signature, signature_by}
-use Rattle.mdr_sound_code.proofs.Rights.{after_right, both_right, same_right, demand_right, chosen_right}
-use Rattle.mdr_sound_code.proofs.Alike.{left_of}
+use Rattle.mdr_sound.proofs.Rights.{after_right, both_right, same_right, demand_right, chosen_right}
+use Rattle.mdr_sound.proofs.Alike.{left_of}
 use Rattle.mdr_sound.specs.Declared.{SeesSiblings, IsSoundHeading, AreNumbered, IsSignatureOf}
 use Rattle.mdr_sound.specs.Standing.{Stands}
 use Rattle.mdr_sound.proofs.Reading.{get_map, get_mapped}
@@ -35,8 +35,8 @@ use Rattle.mdr_sound.proofs.Annotating.{annotation_sound, integer}
 use Rattle.mdr_sound.proofs.Gathering.{Pairwise, pair_of_left, pair_of_right, gathered}
 use Rattle.mdr_sound.proofs.Candidates.{candidate_integer}
 use Rattle.mdr_sound.proofs.CountedItems.{last_or_before}
-use Rattle.mdr_sound_bodies.proofs.Making.{typed_right}
-use Rattle.mdr_sound_bodies.proofs.Scoping.{beside_right, same_declarator, same_result}
+use Rattle.mdr_sound.proofs.Making.{typed_right}
+use Rattle.mdr_sound.proofs.Scoping.{beside_right, same_declarator, same_result}
 
 -- ---- parameters, as they are declared
 

@@ -4,9 +4,9 @@ use Rattle.std.specs.Prelude.{◌||◌}
 use Rattle.std.specs.List.{list_all}
 use Rattle.std.specs.Char.{is_ascii_digit}
 use Rattle.mdr_syntax.specs.Bytes.{is_letter, is_name_byte}
-use Rattle.mdr_reread.specs.Words.{is_word}
+use Rattle.mdr_roundtrip.specs.Words.{is_word}
 use Rattle.mdr_roundtrip.proofs.Bools.{also}
-use Rattle.mdr_sound_code.proofs.Alike.{left_of, right_of}
+use Rattle.mdr_sound.proofs.Alike.{left_of, right_of}
 use Rattle.mdr_sound.specs.ProperSources.{IsIdentifier}
 
 either : (a b : Bool) → a ≡ true → (a || b) ≡ true

@@ -23,9 +23,9 @@ use Rattle.mdr_faults.specs.declared.fault.FaultKind.TheVariants.{Mismatch}
 use Rattle.mdr_faults.specs.declared.scope.Object.{Object}
 use Rattle.mdr_faults.specs.Faults.{Checked, Right, after}
 use Rattle.mdr_program.specs.Values.{zeros, object_cells, first_cells, first_values}
-use Rattle.mdr_sound_code.proofs.Alike.{right_of as right_holds}
-use Rattle.mdr_sound_bodies.proofs.Joined.{or_left}
-use Rattle.mdr_sound_code.proofs.Rights.{not_right, same_right, after_right, both_right, chosen_right, refused_right, demand_right}
+use Rattle.mdr_sound.proofs.Alike.{right_of as right_holds}
+use Rattle.mdr_sound.proofs.JoinedLists.{or_left}
+use Rattle.mdr_sound.proofs.Rights.{not_right, same_right, after_right, both_right, chosen_right, refused_right, demand_right}
 use Rattle.mdr_sound.proofs.Filled.{Fills, fills_append, fills_sole, fills_as, fills_values, types_of, repeated_once, repeated_apart, fills_repeated, fills_none}
 use Rattle.mdr_sound.proofs.SingleValues.{IsSingle}
 use Rattle.mdr_sound.proofs.Sorts.{integer_is}

@@ -24,7 +24,7 @@ use Rattle.mdr_faults.specs.declared.scope.StructEntry.{StructEntry}
 use Rattle.mdr_faults.specs.Faults.{Checked, Right, after}
 use Rattle.mdr_faults.specs.Scopes.{entity_named}
 use Rattle.mdr_program.specs.Values.{object_cells, first_values}
-use Rattle.mdr_sound_code.proofs.Rights.{not_right, same_right, demand_right}
+use Rattle.mdr_sound.proofs.Rights.{not_right, same_right, demand_right}
 use Rattle.mdr_sound.specs.Globals.{StandsAmong}
 use Rattle.mdr_sound.proofs.Filled.{fills_as, types_of, repeated_once}
 use Rattle.mdr_sound.proofs.Initialised.{IsInitialised, IsSingular, IsGood, AreGood, zeros_initialise, single_initialises, text_initialises, array_initialises}

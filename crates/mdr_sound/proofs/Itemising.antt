@@ -11,18 +11,18 @@ use Rattle.mdr_syntax.specs.declared.tree.Tree.{Tree}
 use Rattle.mdr_syntax.specs.Tokens.{tokens_of}
 use Rattle.mdr_grammar.specs.Grammar.{Reads}
 use Rattle.mdr_grammar.specs.Statements.{are_named}
-use Rattle.mdr_reread.specs.Words.{is_word}
-use Rattle.mdr_reread.specs.Printable.{all}
-use Rattle.mdr_reread.specs.Stated.{is_printable_node}
-use Rattle.mdr_reread.specs.Whole.{is_defined, is_printable_head, is_printable_item, is_printable_line}
+use Rattle.mdr_roundtrip.specs.Words.{is_word}
+use Rattle.mdr_roundtrip.specs.Printable.{all}
+use Rattle.mdr_roundtrip.specs.PrintableStatements.{is_printable_node}
+use Rattle.mdr_roundtrip.specs.Whole.{is_defined, is_printable_head, is_printable_item, is_printable_line}
 use Rattle.mdr_roundtrip.specs.Shaped.{is_name, is_named_base, are_stars}
 use Rattle.mdr_roundtrip.specs.Itemised.{is_shaped_parameter, is_shaped_head, is_shaped_body, is_shaped_what, is_shaped_item}
 use Rattle.mdr_roundtrip.specs.Lexed.{are_lexed}
 use Rattle.mdr_roundtrip.proofs.Lexemes.{tokens_are_lexed}
 use Rattle.mdr_roundtrip.proofs.Printing.{trees_are_printable}
 use Rattle.mdr_roundtrip.proofs.ShapingSources.{sources_are_shaped}
-use Rattle.mdr_sound_code.proofs.Alike.{left_of, right_of}
-use Rattle.mdr_sound_bodies.specs.Written.{AreNamed}
+use Rattle.mdr_sound.proofs.Alike.{left_of, right_of}
+use Rattle.mdr_sound.specs.Written.{AreNamed}
 use Rattle.mdr_sound.specs.ProperSources.{IsProperItem, AreProperItems}
 use Rattle.mdr_sound.proofs.Identifying.{word_is}
 use Rattle.mdr_sound.proofs.Numbering.{constant_in}

@@ -11,15 +11,15 @@ use Rattle.mdr_syntax.specs.declared.tree.NodeWhat.TheOpen.{NodeWhat-F}
 use Rattle.mdr_syntax.specs.declared.tree.NodeWhat.TheFolds.{ind-Node, map-NodeWhat, fold-NodeWhat, fold-roll-NodeWhat, fold-roll-Clause, fold_out-Node}
 use Rattle.mdr_grammar.specs.Expressions.{is_level_free}
 use Rattle.mdr_operand.specs.Written.{Line, Labelled, line_list, clause_list, node_what_written, clause_written, node_written, line_of, lines_of, clause_of}
-use Rattle.mdr_reread.specs.Words.{is_sign}
-use Rattle.mdr_reread.specs.Printable.{all, is_printable_form}
-use Rattle.mdr_reread.specs.Declared.{maybe, is_printable_decl}
-use Rattle.mdr_reread.specs.Stated.{is_label, node_what_printable, clause_printable, node_printable, is_printable_node, is_printable_statement, is_printable_clause}
+use Rattle.mdr_roundtrip.specs.Words.{is_sign}
+use Rattle.mdr_roundtrip.specs.Printable.{all, is_printable_form}
+use Rattle.mdr_roundtrip.specs.PrintableDeclarations.{maybe, is_printable_decl}
+use Rattle.mdr_roundtrip.specs.PrintableStatements.{is_label, node_what_printable, clause_printable, node_printable, is_printable_node, is_printable_statement, is_printable_clause}
 use Rattle.mdr_roundtrip.specs.Declarations.{Standing, is_shaped_decl}
 use Rattle.mdr_roundtrip.specs.Initialised.{are_some}
 use Rattle.mdr_roundtrip.specs.Stated.{Stated, is_shaped_label, sole, as_simple, is_expression_at, item_at, block_at, further_at, opening_at, statement_at, clause_at, with_base, statement_stated, clause_stated, node_stated, stated, stated_what, is_clause_at}
-use Rattle.mdr_sound_code.proofs.Alike.{left_of, right_of}
-use Rattle.mdr_sound_bodies.specs.Written.{IsStatement, AreStatements, IsProper, AreProper, AreProperClauses}
+use Rattle.mdr_sound.proofs.Alike.{left_of, right_of}
+use Rattle.mdr_sound.specs.Written.{IsStatement, AreStatements, IsProper, AreProper, AreProperClauses}
 use Rattle.mdr_sound.proofs.SourceForming.{numbered, perhaps_numbered}
 use Rattle.mdr_sound.proofs.SourceNamed.{alone_named}
 

@@ -15,7 +15,7 @@ use Rattle.mdr_faults.specs.declared.scope.Member.{Member}
 use Rattle.mdr_faults.specs.declared.scope.Object.{Object}
 use Rattle.mdr_faults.specs.Faults.{Right, again, after}
 use Rattle.mdr_program.specs.Values.{object_cells, first_values}
-use Rattle.mdr_sound_code.proofs.Rights.{not_right, same_right, after_right, both_right, again_right}
+use Rattle.mdr_sound.proofs.Rights.{not_right, same_right, after_right, both_right, again_right}
 use Rattle.mdr_sound.proofs.Filled.{Fills, Done, fills_append, fills_as, fills_values, types_of}
 use Rattle.mdr_sound.proofs.Fielded.{types_of_field}
 use Rattle.mdr_sound.proofs.Initialised.{IsInitialised, IsSingular, IsGood, AreGood, values_append, zeros_initialise}

@@ -17,11 +17,11 @@ use Rattle.mdr_faults.specs.declared.scope.Tag.{Tag}
 use Rattle.mdr_faults.specs.Declarations.{Declarator, declarator, declarator_by, declarator_layer, declarator_type, base_type, struct_named, starred, pointer_to, type_named, result_type, parameter_type, parameter_among, parameter_list, is_void}
 use Rattle.mdr_faults.specs.Faults.{Checked, Right, after}
 use Rattle.mdr_faults.specs.Scopes.{tag_named}
-use Rattle.mdr_sound_code.proofs.Alike.{left_of}
-use Rattle.mdr_sound_code.proofs.Rights.{after_right, both_right, same_right, demand_right, chosen_right, not_right}
+use Rattle.mdr_sound.proofs.Alike.{left_of}
+use Rattle.mdr_sound.proofs.Rights.{after_right, both_right, same_right, demand_right, chosen_right, not_right}
 use Rattle.mdr_sound.specs.Declared.{IsSomeSort}
 pub use Rattle.mdr_sound.specs.Declared.{AreNumbered}
-use Rattle.mdr_sound_code.proofs.Layers.{sort_int, sort_lock}
+use Rattle.mdr_sound.proofs.Layers.{sort_int, sort_lock}
 use Rattle.mdr_sound.proofs.Sorts.{struct_aggregate, void_sort, pointer_some, scalar_sort, result_sort, is_result, handle_sort}
 
 -- ---- types without parameters

@@ -8,7 +8,7 @@ use Rattle.mdr_core.specs.Kinds.{is_in_range, least, greatest}
 use Rattle.mdr_core.specs.Layout.{chosen}
 use Rattle.mdr_core.proofs.Ranges.{in_range-from}
 use Rattle.mdr_faults.specs.Declarations.{opposite, number_constant}
-use Rattle.mdr_reread.specs.Words.{is_written}
+use Rattle.mdr_roundtrip.specs.Words.{is_written}
 use Rattle.mdr_sound.specs.ProperSources.{IsInRange}
 
 below : (n m : ℕ) → nat_lt n m ≡ true → n < m

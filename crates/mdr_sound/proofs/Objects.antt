@@ -18,7 +18,7 @@ use Rattle.mdr_faults.specs.declared.scope.Scope.{Scope}
 use Rattle.mdr_faults.specs.declared.scope.StructEntry.{StructEntry}
 use Rattle.mdr_faults.specs.Declarations.{declarator, constant, element_count, count_of, struct_cells, cells_by, cells_of, sized, object_of, object_declared, is_void, is_void_by}
 use Rattle.mdr_faults.specs.Faults.{Right}
-use Rattle.mdr_sound_code.proofs.Rights.{after_right, both_right, same_right, refused_right, again_right, not_right}
+use Rattle.mdr_sound.proofs.Rights.{after_right, both_right, same_right, refused_right, again_right, not_right}
 use Rattle.mdr_sound.specs.Declared.{IsSoundObject, AreNumbered}
 use Rattle.mdr_sound.specs.Standing.{Stands}
 use Rattle.mdr_sound.proofs.Sorts.{object_sort}

@@ -27,7 +27,7 @@ use Rattle.mdr_check.specs.declared.file.Piece.{Piece}
 use Rattle.mdr_check.specs.declared.file.Piece.TheVariants as piece
 use Rattle.mdr_check.specs.Files.{BodyRule, item_piece, behind_item, struct_piece, struct_of, with_outline_if, outlines_behind, outlines_from, first_scope, first_known}
 use Rattle.mdr_check.specs.Globals.{behind_global}
-use Rattle.mdr_sound_code.proofs.Rights.{after_right, demand_right, same_right}
+use Rattle.mdr_sound.proofs.Rights.{after_right, demand_right, same_right}
 use Rattle.mdr_sound.specs.Counting.{Begins}
 use Rattle.mdr_sound.proofs.Extending.{begins_itself, begins_behind, begins_more}
 use Rattle.mdr_sound.proofs.Tagged.{AreNumbered, all_numbered, tags_begin, is_first}

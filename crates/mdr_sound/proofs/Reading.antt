@@ -1,6 +1,6 @@
 -- Items of a list that is made of another one.
 use Rattle.std.proofs.Common.{◌≡◌, ℕ, zero, suc, List, [], ◌∷◌, map, Some, slice_get, refl, ap}
-pub use Rattle.mdr_sound_code.proofs.Alike.{left_of as left_holds, right_of as right_holds}
+pub use Rattle.mdr_sound.proofs.Alike.{left_of as left_holds, right_of as right_holds}
 use Rattle.mdr_core.proofs.Viewed.{some_same}
 
 pub get_map : {A B : Type 0} (f : A → B) (xs : List A) (i : ℕ) (x : A) → slice_get xs i ≡ Some x → slice_get (map f xs) i ≡ Some (f x)

@@ -46,8 +46,8 @@ use Rattle.mdr_check.specs.Globals.{global, global_object, global_means, behind_
 use Rattle.mdr_program.specs.declared.parts.Parts.{Parts}
 use Rattle.mdr_program.specs.Parts.{behind_piece, parts_behind, no_parts}
 use Rattle.mdr_program.specs.Programs.{global_def, global_defs}
-use Rattle.mdr_sound_code.specs.Knowing.{IsKnownEntity, IsKnownGlobal, IsKnownFunction}
-use Rattle.mdr_sound_code.proofs.Rights.{after_right, both_right, same_right, told_right}
+use Rattle.mdr_sound.specs.Knowing.{IsKnownEntity, IsKnownGlobal, IsKnownFunction}
+use Rattle.mdr_sound.proofs.Rights.{after_right, both_right, same_right, told_right}
 use Rattle.mdr_sound.specs.Counting.{AreDeclaredAs, Begins}
 use Rattle.mdr_sound.specs.Standing.{Stands}
 use Rattle.mdr_sound.specs.Whole.{HasAll, IsMadeOf, IsDefineInRange, AreDefinesInRange}
@@ -65,7 +65,7 @@ use Rattle.mdr_sound.proofs.Outlines.{names_structs, outlines_hold, Completes, c
 use Rattle.mdr_sound.proofs.Passing.{IsStructItem, struct_or_not}
 use Rattle.mdr_sound.proofs.SoundGlobals.{declared}
 use Rattle.mdr_headings.specs.Annotations.{candidate}
-use Rattle.mdr_sound_bodies.specs.Within.{IsOfMember}
+use Rattle.mdr_sound.specs.Within.{IsOfMember}
 use Rattle.mdr_sound.proofs.Gathering.{pair_of_right}
 use Rattle.mdr_sound.proofs.Reading.{get_map}
 use Rattle.mdr_sound.proofs.Structs.{IsFieldOf, struct_as, struct_sound}

@@ -34,9 +34,9 @@ use Rattle.mdr_faults.specs.Faults.{Right, again}
 use Rattle.mdr_faults.specs.Scopes.{entity_named}
 use Rattle.mdr_program.specs.Programs.{global_def, global_defs}
 use Rattle.mdr_program.specs.Values.{first_cells, address_of, number_in}
-use Rattle.mdr_sound_code.specs.Knowing.{Knows, IsKnownEntity, IsKnownGlobal, IsKnownFunction}
-use Rattle.mdr_sound_code.proofs.Alike.{alike_same, alikes_same, left_of, right_of}
-use Rattle.mdr_sound_code.proofs.Rights.{not_right, same_right, after_right, chosen_right, again_right}
+use Rattle.mdr_sound.specs.Knowing.{Knows, IsKnownEntity, IsKnownGlobal, IsKnownFunction}
+use Rattle.mdr_sound.proofs.Alike.{alike_same, alikes_same, left_of, right_of}
+use Rattle.mdr_sound.proofs.Rights.{not_right, same_right, after_right, chosen_right, again_right}
 use Rattle.mdr_sound.specs.Globals.{HasVariables}
 use Rattle.mdr_sound.proofs.TypeNumbers.{numbered_there}
 use Rattle.mdr_sound.proofs.Sorts.{integer_is, pointer_is, void_pointer_is}

@@ -11,8 +11,8 @@ use Rattle.mdr_core.specs.Sound.{IsObjectSort}
 use Rattle.mdr_core.specs.Types.{Sort, Wrong, Empty, Locks, Aggregate, Scalar, sort_of, sort_layer, pointer_sort, function_sort, is_result_sort, is_scalar_sort, is_scalar, is_scalar_by}
 use Rattle.mdr_core.proofs.Laid.{sort_is}
 use Rattle.mdr_faults.specs.Declarations.{is_void, is_void_by, pointer_by, pointer_to}
-use Rattle.mdr_sound_code.proofs.Layers.{sort_struct, sort_ptr, sort_void_ptr}
-pub use Rattle.mdr_sound_code.proofs.Layers.{int_from as integer_is, ptr_from as pointer_is, void_ptr_from as void_pointer_is}
+use Rattle.mdr_sound.proofs.Layers.{sort_struct, sort_ptr, sort_void_ptr}
+pub use Rattle.mdr_sound.proofs.Layers.{int_from as integer_is, ptr_from as pointer_is, void_ptr_from as void_pointer_is}
 use Rattle.mdr_sound.specs.Declared.{IsSomeSort}
 
 -- ---- a type by its first level

@@ -12,7 +12,7 @@ use Rattle.mdr_syntax.specs.declared.tree.Init.{Init}
 use Rattle.mdr_check.specs.declared.initialiser.First.{First}
 use Rattle.mdr_check.specs.declared.variable.Variable.{Variable}
 use Rattle.mdr_headings.specs.Within.{beside, within}
-use Rattle.mdr_sound_bodies.proofs.Scoping.{beside_right}
+use Rattle.mdr_sound.proofs.Scoping.{beside_right}
 use Rattle.mdr_check.specs.Globals.{behind_global, first_value, global, global_means, global_object, variable, variable_of}
 use Rattle.mdr_faults.specs.declared.fault.FaultKind.TheVariants.{Limit, Redefined}
 use Rattle.mdr_faults.specs.declared.scope.Entity.{Entity}
@@ -25,8 +25,8 @@ use Rattle.mdr_headings.specs.Annotations.{annotated}
 use Rattle.mdr_headings.specs.Structs.{name_or_none}
 use Rattle.mdr_program.specs.Programs.{global_def, global_defs}
 use Rattle.mdr_program.specs.Values.{first_values, object_cells}
-use Rattle.mdr_sound_code.specs.Knowing.{IsKnownEntity, IsKnownGlobal}
-use Rattle.mdr_sound_code.proofs.Rights.{same_ok, same_right, after_right, both_right, demand_right}
+use Rattle.mdr_sound.specs.Knowing.{IsKnownEntity, IsKnownGlobal}
+use Rattle.mdr_sound.proofs.Rights.{same_ok, same_right, after_right, both_right, demand_right}
 use Rattle.mdr_sound.specs.Declared.{IsSoundObject, SeesSiblings}
 use Rattle.mdr_sound.specs.Globals.{HasVariables, StandsAmong}
 use Rattle.mdr_sound.specs.GlobalLaws.{GlobalsAreSound}

@@ -39,13 +39,13 @@ use Rattle.mdr_body.specs.Statements.{Rules}
 use Rattle.mdr_program.specs.declared.parts.Parts.{Parts}
 use Rattle.mdr_program.specs.Parts.{marked, remote, whole, behind_piece, parts_behind, no_parts}
 use Rattle.mdr_program.specs.Programs.{global_def, global_defs}
-use Rattle.mdr_sound_code.specs.Knowing.{Knows}
-use Rattle.mdr_sound_bodies.specs.Grounded.{ArePlainGrounded}
-use Rattle.mdr_sound_bodies.specs.Rules.{AreSoundRules}
-use Rattle.mdr_sound_bodies.specs.Within.{KnowsDeclarations}
-use Rattle.mdr_sound_bodies.specs.Written.{AreNamed, AreProper}
-use Rattle.mdr_sound_bodies.specs.Bodies.{IsMade, made_work}
-use Rattle.mdr_sound_bodies.proofs.Making.{made_sound}
+use Rattle.mdr_sound.specs.Knowing.{Knows}
+use Rattle.mdr_sound.specs.Grounded.{ArePlainGrounded}
+use Rattle.mdr_sound.specs.Rules.{AreSoundRules}
+use Rattle.mdr_sound.specs.Within.{KnowsDeclarations}
+use Rattle.mdr_sound.specs.Written.{AreNamed, AreProper}
+use Rattle.mdr_sound.specs.Bodies.{IsMade, made_work}
+use Rattle.mdr_sound.proofs.Making.{made_sound}
 use Rattle.mdr_sound.specs.Counting.{Begins}
 use Rattle.mdr_sound.specs.Declared.{IsSoundHeading}
 use Rattle.mdr_sound.specs.Globals.{HasVariables, StandsAmong}

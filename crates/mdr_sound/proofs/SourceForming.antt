@@ -7,12 +7,12 @@ use Rattle.mdr_syntax.specs.declared.tree.FormWhat.{FormWhat}
 use Rattle.mdr_syntax.specs.declared.tree.FormWhat.TheOpen.{FormWhat-F}
 use Rattle.mdr_syntax.specs.declared.tree.FormWhat.TheFolds.{ind-Form, map-FormWhat, fold-roll-FormWhat, fold_out-Form}
 use Rattle.mdr_operand.specs.Written.{Written, written_list, what_written, form_written, written_of, written_what}
-use Rattle.mdr_reread.specs.Words.{is_word, is_sign, is_prefix, is_step, is_base}
-use Rattle.mdr_reread.specs.Printable.{all, what_printable, form_printable, is_printable_form, is_printable_what}
-use Rattle.mdr_reread.specs.Declared.{maybe}
-use Rattle.mdr_sound_code.specs.Knowing.{HasNumbers, HaveNumbers}
-use Rattle.mdr_sound_code.proofs.Alike.{left_of, right_of}
-use Rattle.mdr_sound_bodies.specs.Written.{PerhapsHasNumbers}
+use Rattle.mdr_roundtrip.specs.Words.{is_word, is_sign, is_prefix, is_step, is_base}
+use Rattle.mdr_roundtrip.specs.Printable.{all, what_printable, form_printable, is_printable_form, is_printable_what}
+use Rattle.mdr_roundtrip.specs.PrintableDeclarations.{maybe}
+use Rattle.mdr_sound.specs.Knowing.{HasNumbers, HaveNumbers}
+use Rattle.mdr_sound.proofs.Alike.{left_of, right_of}
+use Rattle.mdr_sound.specs.Written.{PerhapsHasNumbers}
 use Rattle.mdr_sound.proofs.Numbering.{written_in}
 
 record GoodWhat (w : FormWhat) : Type 0 where

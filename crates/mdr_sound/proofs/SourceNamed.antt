@@ -9,8 +9,8 @@ use Rattle.mdr_grammar.specs.Statements.{are_named}
 use Rattle.mdr_roundtrip.specs.Shaped.{is_named_base, are_stars}
 use Rattle.mdr_roundtrip.specs.Declarations.{Standing, is_named, may_be_named, decl_shaped, is_shaped_decl}
 use Rattle.mdr_roundtrip.specs.Itemised.{is_shaped_parameter}
-use Rattle.mdr_sound_code.proofs.Alike.{left_of, right_of}
-use Rattle.mdr_sound_bodies.specs.Written.{IsNamed, AreNamed}
+use Rattle.mdr_sound.proofs.Alike.{left_of, right_of}
+use Rattle.mdr_sound.specs.Written.{IsNamed, AreNamed}
 
 record Has (o : Option (List ℕ)) : Type 0 where
   name : List ℕ

@@ -17,11 +17,11 @@ use Rattle.mdr_lower.specs.Tables.{Occurs}
 use Rattle.mdr_program.specs.Parts.{parts_of}
 use Rattle.mdr_program.specs.Programs.{made, program_of, typed}
 use Rattle.mdr_typing.specs.Profile.{profile_rules}
-use Rattle.mdr_type_text.specs.Apart.{AreNamed}
+use Rattle.mdr_type_table.specs.Apart.{AreNamed}
 use Rattle.mdr_type_table.specs.Tabled.{HasFormedPointers}
 use Rattle.mdr_type_table.proofs.Tabled.{types_that_occur_have_numbers}
-use Rattle.mdr_file_names.specs.FileNames.{struct_name, HaveWords}
-use Rattle.mdr_file_names.proofs.WholeFiles.{structs_are_named, tables_of_files_are_in_order}
+use Rattle.mdr_type_table.specs.FileNames.{struct_name, HaveWords}
+use Rattle.mdr_type_table.proofs.WholeFiles.{structs_are_named, tables_of_files_are_in_order}
 use Rattle.mdr_sound.specs.Whole.{HasAll, IsDefineInRange, AreDefinesInRange, IsBodyProper, AreBodiesProper}
 use Rattle.mdr_sound.proofs.Filed.{file_of, types_of_files, files_sound}
 use Rattle.mdr_sound.proofs.Sorts.{not_wrong}

@@ -18,12 +18,12 @@ use Rattle.mdr_typing.specs.declared.source.Source.{Source}
 use Rattle.mdr_typing.specs.declared.source.Source.TheVariants as source
 use Rattle.mdr_express.specs.Expressions.{call_at}
 use Rattle.mdr_typing.specs.Sources.{value_source, call_source, is_pointer_value, is_pointer_of, pointer_source, cast_source, source_of}
-use Rattle.mdr_sound_code.specs.Knowing.{Knows, KnowsLocals, HasNumbers, TakesNoSlot}
-use Rattle.mdr_sound_code.specs.Operands.{IsKnown}
-use Rattle.mdr_sound_code.proofs.Expressions.{typed_known, call_at_known}
-use Rattle.mdr_sound_code.proofs.FunctionCalls.{IsKnownCall}
-use Rattle.mdr_sound_code.proofs.Inside.{inside_callee, inside_arguments, inside_cast}
-use Rattle.mdr_sound_code.proofs.Rights.{same_right, after_right, refused_right}
+use Rattle.mdr_sound.specs.Knowing.{Knows, KnowsLocals, HasNumbers, TakesNoSlot}
+use Rattle.mdr_sound.specs.Operands.{IsKnown}
+use Rattle.mdr_sound.proofs.Expressions.{typed_known, call_at_known}
+use Rattle.mdr_sound.proofs.FunctionCalls.{IsKnownCall}
+use Rattle.mdr_sound.proofs.Inside.{inside_callee, inside_arguments, inside_cast}
+use Rattle.mdr_sound.proofs.Rights.{same_right, after_right, refused_right}
 
 module _ (program : Program) (slots : List Slot) (scope : Scope) (names : List LocalName) where
   abbrev pub IsKnownSource : Written → Source → Type 0

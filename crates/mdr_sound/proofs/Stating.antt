@@ -23,16 +23,16 @@ use Rattle.mdr_typing.specs.declared.source.Source.TheVariants as source
 use Rattle.mdr_express.specs.Expressions.{call_at}
 use Rattle.mdr_typing.specs.Profile.{assigned, calling, stepped, called, stored, returned, profile_rules}
 use Rattle.mdr_typing.specs.Sources.{source_of, source_stored, source_returned, assigning, is_plain, value_assigned, call_assigned, source_assigned}
-use Rattle.mdr_sound_code.specs.Knowing.{Knows, KnowsLocals, HasNumbers, TakesNoSlot}
-use Rattle.mdr_sound_code.specs.Operands.{IsKnown}
-use Rattle.mdr_sound_code.proofs.Assigned.{destination_known, assignment_known, step_known}
-use Rattle.mdr_sound_code.proofs.Expressions.{typed_known}
-use Rattle.mdr_sound_code.proofs.FunctionCalls.{IsKnownCall}
-use Rattle.mdr_sound_code.proofs.Formed.{formed_scalar}
-use Rattle.mdr_sound_code.proofs.Inside.{inside_prefix, inside_post}
-use Rattle.mdr_sound_code.proofs.Rights.{not_right, same_right, after_right, both_right}
-use Rattle.mdr_sound_code.proofs.WrittenCalls.{call_value_known}
-use Rattle.mdr_sound_bodies.specs.Rules.{IsSoundStep, IsRight, AreSoundRules}
+use Rattle.mdr_sound.specs.Knowing.{Knows, KnowsLocals, HasNumbers, TakesNoSlot}
+use Rattle.mdr_sound.specs.Operands.{IsKnown}
+use Rattle.mdr_sound.proofs.Assigned.{destination_known, assignment_known, step_known}
+use Rattle.mdr_sound.proofs.Expressions.{typed_known}
+use Rattle.mdr_sound.proofs.FunctionCalls.{IsKnownCall}
+use Rattle.mdr_sound.proofs.Formed.{formed_scalar}
+use Rattle.mdr_sound.proofs.Inside.{inside_prefix, inside_post}
+use Rattle.mdr_sound.proofs.Rights.{not_right, same_right, after_right, both_right}
+use Rattle.mdr_sound.proofs.WrittenCalls.{call_value_known}
+use Rattle.mdr_sound.specs.Rules.{IsSoundStep, IsRight, AreSoundRules}
 use Rattle.mdr_sound.proofs.Giving.{stored_sound, returned_sound}
 use Rattle.mdr_sound.proofs.Standing.{IsKnownSource, calls_known, source_known}
 use Rattle.mdr_sound.proofs.Stepping.{assign_sound, call_sound}

@@ -13,8 +13,8 @@ use Rattle.mdr_core.specs.Typing.{Slot}
 use Rattle.mdr_rich.specs.Typing.{GoesTo, IsAssignment, IsTyped, Returns}
 use Rattle.mdr_rich.proofs.Coded.{code_is, assign_is, call_is, return_is, return_call_is}
 use Rattle.mdr_body.specs.Statements.{stmt}
-use Rattle.mdr_sound_bodies.specs.Rules.{IsSoundStep}
-use Rattle.mdr_sound_bodies.proofs.Stating.{step_is}
+use Rattle.mdr_sound.specs.Rules.{IsSoundStep}
+use Rattle.mdr_sound.proofs.SimpleStatements.{step_is}
 
 module _ (program : Program) (slots : List Slot) (result : Ty) where
   pub assign_sound : (l : Lval) (e : Expr) → IsAssignment program slots (lvalue_of l) (term_of e) → IsSoundStep program slots result (step.Assign l e)

@@ -18,10 +18,10 @@ use Rattle.mdr_faults.specs.Declarations.{declarator, is_same_name, object_decla
 use Rattle.mdr_faults.specs.Faults.{Right, after}
 use Rattle.mdr_headings.specs.Annotations.{annotated, candidate, is_integer}
 use Rattle.mdr_headings.specs.Within.{beside, within}
-use Rattle.mdr_sound_bodies.proofs.Scoping.{beside_right}
+use Rattle.mdr_sound.proofs.Scoping.{beside_right}
 use Rattle.mdr_headings.specs.Structs.{field_of, annotated_field, field_among, fields_behind, cells_of_fields, struct_size, struct_rule, struct_fields}
-use Rattle.mdr_sound_code.proofs.Rights.{after_right, both_right, same_right, demand_right, refused_right, not_right}
-use Rattle.mdr_sound_code.proofs.Alike.{left_of, right_of}
+use Rattle.mdr_sound.proofs.Rights.{after_right, both_right, same_right, demand_right, refused_right, not_right}
+use Rattle.mdr_sound.proofs.Alike.{left_of, right_of}
 use Rattle.mdr_sound.specs.Declared.{SeesSiblings}
 use Rattle.mdr_sound.specs.Standing.{Stands}
 use Rattle.mdr_sound.proofs.Reading.{get_map, get_mapped}

@@ -20,8 +20,8 @@ use Rattle.mdr_faults.specs.Declarations.{struct_cells, cells_by, cells_of, obje
 use Rattle.mdr_faults.specs.Faults.{Right, after}
 use Rattle.mdr_headings.specs.Annotations.{candidate}
 use Rattle.mdr_headings.specs.Structs.{number_or_zero, cells_of_fields, struct_size, struct_fields, member, struct_entry}
-use Rattle.mdr_sound_code.specs.Knowing.{IsKnownField}
-use Rattle.mdr_sound_code.proofs.Rights.{same_right, refused_right, told_right, not_right}
+use Rattle.mdr_sound.specs.Knowing.{IsKnownField}
+use Rattle.mdr_sound.proofs.Rights.{same_right, refused_right, told_right, not_right}
 use Rattle.mdr_sound.specs.Declared.{IsKnownStruct}
 use Rattle.mdr_sound.specs.Standing.{Stands}
 use Rattle.mdr_sound.proofs.Reading.{get_mapped}

@@ -20,7 +20,7 @@ use Rattle.mdr_program.specs.Orders.{Rise, IsAmong, IsTexted, AreTexted, IsInOrd
 use Rattle.mdr_program.proofs.Rising.{tables_are_in_order}
 use Rattle.mdr_program.proofs.FirstNumbers.{tables_have_first_numbers}
 use Rattle.mdr_sound.proofs.Reading.{get_mapped}
-use Rattle.mdr_sound_code.proofs.Layers.{sort_int, sort_lock}
+use Rattle.mdr_sound.proofs.Layers.{sort_int, sort_lock}
 use Rattle.mdr_sound.proofs.Sorts.{struct_aggregate}
 
 -- ---- texts in their order

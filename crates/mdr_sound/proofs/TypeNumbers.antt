@@ -5,7 +5,7 @@ use Rattle.std.specs.List.{prefix_len}
 use Rattle.mdr_core.specs.declared.types.Ty.{Ty}
 use Rattle.mdr_faults.specs.Alike.{is_alike}
 use Rattle.mdr_program.specs.Values.{number_in, or_zero}
-use Rattle.mdr_sound_code.proofs.Alike.{alike_same, alike_itself}
+use Rattle.mdr_sound.proofs.Alike.{alike_same, alike_itself}
 
 abbrev before : List Ty → Ty → ℕ
 before types t = prefix_len (λ u. not (is_alike u t)) types

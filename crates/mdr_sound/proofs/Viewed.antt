@@ -25,7 +25,7 @@ use Rattle.mdr_check.specs.declared.file.Piece.TheVariants as piece
 use Rattle.mdr_check.specs.declared.variable.Variable.{Variable}
 use Rattle.mdr_check.specs.Files.{BodyRule, item_piece, body_scope, global_of, prototype_of, function_of}
 use Rattle.mdr_check.specs.Globals.{global}
-use Rattle.mdr_sound_code.proofs.Rights.{after_right, both_right, demand_right, same_right}
+use Rattle.mdr_sound.proofs.Rights.{after_right, both_right, demand_right, same_right}
 use Rattle.mdr_sound.proofs.Passing.{struct_next}
 
 -- an item behind others, of which this is known, and what it comes to

@@ -19,7 +19,7 @@ use Rattle.mdr_faults.specs.declared.scope.Tag.{Tag}
 use Rattle.mdr_faults.specs.Scopes.{tag_named}
 use Rattle.mdr_headings.specs.declared.head.Heading.{Heading}
 use Rattle.mdr_headings.specs.Structs.{struct_entry}
-use Rattle.mdr_sound_code.specs.Knowing.{IsKnownField}
+use Rattle.mdr_sound.specs.Knowing.{IsKnownField}
 
 -- `void`, or a type of objects
 abbrev pub IsSomeSort : Sort → Type 0

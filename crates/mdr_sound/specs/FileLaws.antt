@@ -13,8 +13,8 @@ use Rattle.mdr_body.specs.Bodies.{body_rule}
 use Rattle.mdr_body.specs.Statements.{Rules}
 use Rattle.mdr_lower.specs.Tables.{Occurs}
 use Rattle.mdr_program.specs.Programs.{typed}
-use Rattle.mdr_sound_code.specs.Knowing.{IsFormed, Knows}
-use Rattle.mdr_sound_bodies.specs.Rules.{AreSoundRules}
+use Rattle.mdr_sound.specs.Knowing.{IsFormed, Knows}
+use Rattle.mdr_sound.specs.Rules.{AreSoundRules}
 use Rattle.mdr_sound.specs.Whole.{HasAll, AreDefinesInRange, AreBodiesProper}
 
 -- each type that occurs in the program is a type of objects (6.2.5), if the rules of statements are sound

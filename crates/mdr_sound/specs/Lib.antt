@@ -1,3 +1,13 @@
+pub mod Knowing
+pub mod Operands
+pub mod ExpressionLaws
+pub mod Steps
+pub mod Grounded
+pub mod Rules
+pub mod Written
+pub mod Within
+pub mod Bodies
+pub mod Allocating
 pub mod Sources
 pub mod DeclarationLaws
 pub mod Declared
@@ -7,5 +17,5 @@ pub mod Whole
 pub mod Globals
 pub mod GlobalLaws
 pub mod FileLaws
-pub mod Laws
+pub mod TypingLaws
 pub mod ProperSources

@@ -10,7 +10,7 @@ use Rattle.mdr_syntax.specs.Bytes.{is_name_byte}
 use Rattle.mdr_faults.specs.declared.scope.Constant.{Constant}
 use Rattle.mdr_faults.specs.Declarations.{number_constant}
 use Rattle.mdr_operand.specs.Written.{lines_of}
-use Rattle.mdr_sound_bodies.specs.Written.{AreNamed, AreProper}
+use Rattle.mdr_sound.specs.Written.{AreNamed, AreProper}
 
 -- a name is letters, digits and `_`, at least one (6.4.2.1)
 pub record IsIdentifier (name : List ℕ) : Type 0 where

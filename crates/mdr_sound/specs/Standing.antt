@@ -8,7 +8,7 @@ use Rattle.mdr_core.specs.Types.{Scalar, sort_of}
 use Rattle.mdr_faults.specs.declared.scope.Candidate.{Candidate}
 use Rattle.mdr_faults.specs.declared.scope.Scope.{Scope}
 use Rattle.mdr_faults.specs.declared.scope.StructEntry.{StructEntry}
-use Rattle.mdr_sound_code.specs.Knowing.{Knows}
+use Rattle.mdr_sound.specs.Knowing.{Knows}
 
 -- a scalar field of a struct, which is no array
 pub record IsScalarField (program : Program) (s f : ℕ) : Type 0 where

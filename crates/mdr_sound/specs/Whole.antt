@@ -11,7 +11,7 @@ use Rattle.mdr_syntax.specs.declared.tree.ItemWhat.TheVariants as item
 use Rattle.mdr_faults.specs.Declarations.{number_constant}
 use Rattle.mdr_operand.specs.Written.{lines_of}
 use Rattle.mdr_lower.specs.Tables.{Occurs}
-use Rattle.mdr_sound_bodies.specs.Written.{AreNamed, AreProper}
+use Rattle.mdr_sound.specs.Written.{AreNamed, AreProper}
 use Rattle.mdr_program.specs.declared.parts.Parts.{Parts}
 use Rattle.mdr_program.specs.Programs.{global_defs}
 

@@ -1,6 +1,7 @@
 // What holds of declarations in which no fault is found.
 
-ghost use Rattle.mdr_sound.specs.DeclarationLaws.{DeclaratorsHaveTypes, ObjectsAreSound, AnnotationsAreSound, StructsAreSound, StructsAreKnown, HeadingsAreSound, HeadingsHaveSignatures, TablesAreSound};
+ghost use Rattle.mdr_sound.specs.DeclarationLaws.{DeclaratorsHaveTypes, ObjectsAreSound, AnnotationsAreSound, StructsAreSound};
+ghost use Rattle.mdr_sound.specs.DeclarationLaws.{StructsAreKnown, HeadingsAreSound, HeadingsHaveSignatures, TablesAreSound};
 
 /// A declarator's type is `void` or a type of objects, and as that of a parameter a scalar.
 pub fn declarators_have_types()

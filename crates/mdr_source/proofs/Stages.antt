@@ -1,7 +1,5 @@
 -- What a source comes to, from one stage to the next.
-use Rattle.std.proofs.Common.{◌≡◌, refl, sym, subst, ap, ◌∙◌, ◌↔◌, Bool, true, false, List, Some, Result, Ok, Err}
-use Rattle.std.specs.Prelude.{IfOk, MatchResult}
-use Rattle.mdr_core.specs.declared.memory_error.OutOfMemory.{OutOfMemory}
+use Rattle.std.proofs.Common.{◌≡◌, refl, sym, subst, ap, ◌∙◌, Bool, true, false, List, Some, Result, Ok, Err}
 use Rattle.mdr_core.specs.declared.program.Func.{Func}
 use Rattle.mdr_core.specs.declared.program.Program.{Program}
 use Rattle.mdr_core.specs.Sound.{HasFewNumbers}
@@ -17,22 +15,12 @@ use Rattle.mdr_source.specs.Sources.{refused_as, Judged, Reading}
 
 -- ---- programs
 
--- what is said of a program whose numbers are few or not, and that perhaps calls back
-abbrev Settled : (few : Bool) → (back : Bool) → Program → Result Program Refusal → Type 0
-Settled few back program r = MatchResult r (λ p. (p ≡ program) × (back ≡ false) × (few ≡ true)) (λ e. (e ≡ refusal.Unbuilt) × (back ≡ true))
+-- a program that calls back, and one that doesn't
+pub back_program : (program : Program) (back : Bool) (fs : List Func) (r : Result Program Refusal) → fs ≡ program.funcs → back ≡ functions_call_back fs → back ≡ true → r ≡ Err refusal.Unbuilt → Judged (Right program) r
+back_program program back fs r e b t d = subst (λ x. Judged (Right program) x) (sym d) (Judged.back program refl (sym (ap functions_call_back e) ∙ sym b ∙ t))
 
-judged_by : (program : Program) (few back : Bool) → (few ≡ true) ↔ HasFewNumbers program → back ≡ functions_call_back program.funcs
-    → (r : Result Program Refusal) → Settled few back program r → Judged (Right program) r
-judged_by program few back n b (Ok p) (e, f, m) =
-    subst (λ q. Judged (Right program) (Ok q)) (sym e) (Judged.right program refl (sym b ∙ f) (n.0 m))
-judged_by program few back n b (Err e) (d, t) =
-    subst (λ x. Judged (Right program) (Err x)) (sym d) (Judged.back program refl (sym b ∙ t))
-
-pub kept_program : (program : Program) (o : Result (Result Program Refusal) OutOfMemory) (few back : Bool) (fs : List Func)
-    → fs ≡ program.funcs → (few ≡ true) ↔ HasFewNumbers program → back ≡ functions_call_back fs
-    → IfOk o (Settled few back program) → IfOk o (Judged (Right program))
-kept_program program (Ok r) few back fs e n b s = judged_by program few back n (b ∙ ap functions_call_back e) r s
-kept_program program (Err x) few back fs e n b s = tt
+pub few_program : (program : Program) (back : Bool) (fs : List Func) → fs ≡ program.funcs → back ≡ functions_call_back fs → back ≡ false → HasFewNumbers program → Judged (Right program) (Ok program)
+few_program program back fs e b f few = Judged.right program refl (sym (ap functions_call_back e) ∙ sym b ∙ f) few
 
 -- ---- tokens
 

@@ -12,7 +12,7 @@ use crate::backs::functions_call_back;
 use crate::outcome::Source;
 use crate::refusal::Refusal;
 use mdr_body::Rule;
-use mdr_core::{Limit, OutOfMemory, Program, has_few_numbers};
+use mdr_core::{OutOfMemory, Program, few};
 use mdr_express::left_over;
 use mdr_faults::Fault;
 use mdr_parse::{ParseError, parse};
@@ -23,29 +23,25 @@ use std::alloc::Global;
 
 // ---- programs
 
-/// A program that perhaps calls back, and whose types, globals, structs and functions are few or not.
-fn settled<P: Drop>(
-    is_few: bool,
-    is_back: bool,
-    program: P,
-) -> Result<Result<P, Refusal>, OutOfMemory>
-    ensures { IfOk result (λ r. MatchResult r (λ p. (p ≡ program) × (is_back ≡ false) × (is_few ≡ true)) (λ e. (e ≡ refusal.Unbuilt) × (is_back ≡ true))) }
+/// Why a source is refused, in place of what was read of it.
+fn refused<T: Drop, A: Drop>(refusal: Refusal, _read: T) -> Result<A, Refusal>
+    ensures { result ≡ Err refusal }
 {
-    if is_back {
-        return Ok(Err(Refusal::Unbuilt));
-    }
-    if !is_few {
-        return Err(Limit::Parts.past());
-    }
-    Ok(Ok(program))
+    Err(refusal)
 }
 
+/// A program that perhaps calls back, and whose types, globals, structs and functions are few or not.
 fn kept(program: Program) -> Result<Result<Program, Refusal>, OutOfMemory>
     ensures { IfOk result (Judged (Right program)) }
 {
     let is_back = functions_call_back(program.funcs.as_slice());
-    let is_few = has_few_numbers(&program);
-    settled(is_few, is_back, program)
+    if is_back {
+        return Ok(refused(Refusal::Unbuilt, program));
+    }
+    match few(&program) {
+        Ok(()) => Ok(Ok(program)),
+        Err(error) => left_over(error, program),
+    }
 }
 
 fn judged(found: Result<Program, Fault>) -> Result<Result<Program, Refusal>, OutOfMemory>
@@ -71,13 +67,6 @@ fn typed(alloc: Global, tree: &Tree) -> Result<Result<Program, Refusal>, OutOfMe
 }
 
 // ---- sources
-
-/// Why a source is refused, in place of what was read of it.
-fn refused<T: Drop, A: Drop>(refusal: Refusal, _read: T) -> Result<A, Refusal>
-    ensures { result ≡ Err refusal }
-{
-    Err(refusal)
-}
 
 /// The refusal of tokens that are no source. Want of memory refuses nothing.
 fn refused_as(error: ParseError) -> Result<Refusal, OutOfMemory>

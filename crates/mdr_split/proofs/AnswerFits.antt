@@ -18,7 +18,7 @@ use Rattle.mdr_meaning.specs.declared.wire.Wire.TheVariants as wire
 use Rattle.mdr_meaning.specs.Fair.{IsAsk, IsServed}
 use Rattle.mdr_meaning.specs.Fit.{IsInteger, Knowledge}
 use Rattle.mdr_meaning.specs.Tree.{Asked}
-use Rattle.mdr_meaning.specs.Values.{first_of, natural, rest_of}
+use Rattle.mdr_meaning.specs.Values.{first_of, natural, rest_of, saturated_u32}
 use Rattle.mdr_model.specs.declared.memory.MemoryBlock.{MemoryBlock}
 use Rattle.mdr_model.specs.declared.message.BirthKind.{BirthKind}
 use Rattle.mdr_model.specs.declared.message.BirthKind.TheVariants.{Auto, Heap}
@@ -248,7 +248,7 @@ module _ (program : Program) (a : Asked) (w : World) where
   service_given K K' Kcalloc low h = subst (λ (shapes : List Shape64). IsGivenBy Block (IsServed program K' a Kcalloc) (allocated program shapes (asked_once_more w))) (sym h.is) (allocated_given (IsServed program K' a Kcalloc) h.shape low h.is)
   service_given K K' Kfree low h = freed_given (IsServed program K' a Kfree) (first_of (as_now w a).args)
   service_given K K' Readl low h = read_given (natural (first_of (as_now w a).args))
-  service_given K K' Writel low h = written_given (IsServed program K' a Writel) (natural (first_of (rest_of (as_now w a).args))) (natural (first_of (as_now w a).args))
+  service_given K K' Writel low h = written_given (IsServed program K' a Writel) (natural (first_of (rest_of (as_now w a).args))) (saturated_u32 (natural (first_of (as_now w a).args)))
   service_given K K' Printk low h = λ news tells so. refl
   service_given K K' RequestIrq low h = requested_given w.kept.handler (first_of (as_now w a).args)
   service_given K K' FreeIrq low h = λ news tells so. refl

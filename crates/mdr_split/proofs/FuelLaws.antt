@@ -1,5 +1,5 @@
 -- A reply is the same whatever fuel it is made with, as long as the fuel is above the ticks that the messages grant.
-use Rattle.std.proofs.Common.{◌≡◌, ℕ, suc, ◌+◌, ◌<◌, ◌≤◌, Bool, true, false, List, [], ◌∷◌, ◌++◌, Ok, Err, refl, sym, ◌∙◌, ap, le_refl, arith}
+use Rattle.std.proofs.Common.{◌≡◌, ℕ, suc, ◌+◌, ◌<◌, ◌≤◌, Bool, true, false, List, [], ◌∷◌, ◌++◌, map, Ok, Err, refl, sym, ◌∙◌, ap, le_refl, arith}
 use mathlib.Core.Path.{fun_ext}
 use Rattle.mdr_meaning.proofs.CutLaws.{cut_cut}
 use Rattle.mdr_meaning.proofs.FuelLaws.{started_fuel_is_no_matter}
@@ -16,8 +16,8 @@ use Rattle.mdr_model.specs.KernelState.{Reading}
 use Rattle.mdr_model.specs.Memory.{Memory}
 use Rattle.mdr_model.specs.User.{allowance, granted}
 use Rattle.mdr_model.proofs.FuelLaws.{allowance-append, allowance_one}
-use Rattle.mdr_split.specs.Fuel.{RepliesTakeAnyFuel}
-use Rattle.mdr_split.specs.User.{AwaitsAnswer, AwaitsBack, Delivered, Nothing, Refuses, Runs, User, Work, deliver, done, first_user, guarded, opened, replied, replied_to, user_after, user_reply, when_fits}
+use Rattle.mdr_split.specs.Fuel.{RepliesTakeAnyFuel, cut_delivered, cut_down, cut_user, cut_work}
+use Rattle.mdr_split.specs.User.{AwaitsAnswer, AwaitsBack, Delivered, Down, Nothing, Refuses, Runs, User, Work, call_fits, deliver, done, first_user, guarded, opened, replied, replied_to, resting, user_after, user_reply, when_fits}
 use Rattle.mdr_watched.specs.Driver.{Driver}
 
 -- ---- messages in turn
@@ -29,24 +29,25 @@ user_after-append d fuel u (x ∷ xs) ys = user_after-append d fuel (deliver d f
 
 -- ---- cuts of what the user half holds
 
--- an answer grants no ticks: its tree goes on with those that were left
-abbrev pub cut_work : ℕ → Work → Work
-cut_work r Nothing = Nothing
-cut_work r (AwaitsBack stub func view goes) = AwaitsBack stub func view (λ v. cut r (goes v))
-cut_work r (AwaitsAnswer stub asked view left goes) = AwaitsAnswer stub asked view left (λ vs. cut (r + left) (goes vs))
+cut_cut_down : (q s : ℕ) (down : Down) → q ≤ s → cut_down q (cut_down s down) ≡ cut_down q down
+cut_cut_down q s down fewer =
+    ap (λ (goes : Wire → Tree). record { stub = down.stub; func = down.func; depth = down.depth; goes = goes }) (fun_ext (λ v. cut_cut q s fewer (down.goes v)))
 
-abbrev pub cut_user : ℕ → User → User
-cut_user r u = record { agreed = u.agreed; entered = u.entered; work = cut_work r u.work }
-
--- the reply as it is
-abbrev pub cut_delivered : ℕ → Delivered → Delivered
-cut_delivered r d = record { reply = d.reply; user = cut_user r d.user }
+pub cut_cut_below : (q s : ℕ) (below : List Down) → q ≤ s → map (cut_down q) (map (cut_down s) below) ≡ map (cut_down q) below
+cut_cut_below q s [] fewer = refl
+cut_cut_below q s (down ∷ below) fewer =
+    ap (λ (x : Down). x ∷ map (cut_down q) (map (cut_down s) below)) (cut_cut_down q s down fewer)
+    ∙ ap (λ (xs : List Down). cut_down q down ∷ xs) (cut_cut_below q s below fewer)
 
 cut_cut_work : (q s : ℕ) (work : Work) → q ≤ s → cut_work q (cut_work s work) ≡ cut_work q work
 cut_cut_work q s Nothing fewer = refl
-cut_cut_work q s (AwaitsBack stub func view goes) fewer = ap (AwaitsBack stub func view) (fun_ext (λ v. cut_cut q s fewer (goes v)))
-cut_cut_work q s (AwaitsAnswer stub asked view left goes) fewer =
-    ap (AwaitsAnswer stub asked view left) (fun_ext (λ vs. cut_cut (q + left) (s + left) (omega arith) (goes vs)))
+cut_cut_work q s (AwaitsBack down below) fewer =
+    ap (λ (x : Down). AwaitsBack x (map (cut_down q) (map (cut_down s) below))) (cut_cut_down q s down fewer)
+    ∙ ap (AwaitsBack (cut_down q down)) (cut_cut_below q s below fewer)
+cut_cut_work q s (AwaitsAnswer stub asked view left goes below) fewer =
+    ap (λ (k : List Wire → Tree). AwaitsAnswer stub asked view left k (map (cut_down q) (map (cut_down s) below)))
+    (fun_ext (λ vs. cut_cut (q + left) (s + left) (omega arith) (goes vs)))
+    ∙ ap (AwaitsAnswer stub asked view left (λ vs. cut (q + left) (goes vs))) (cut_cut_below q s below fewer)
 
 cut_cut_user : (q s : ℕ) (u : User) → q ≤ s → cut_user q (cut_user s u) ≡ cut_user q u
 cut_cut_user q s u fewer = ap (λ (work : Work). record { agreed = u.agreed; entered = u.entered; work = work }) (cut_cut_work q s u.work fewer)
@@ -62,39 +63,71 @@ shorter q s t t' fewer same = sym (cut_cut q s fewer t) ∙ ap (cut q) same ∙ 
 -- ---- one message
 
 -- a reply and what is held after it depend on what was reached up to a cut
-replied_cut : (r stub : ℕ) (entered : List ℕ) (view : List Cell) (rest : ℕ) (copy m : Memory) (left : ℕ) (x : Reached)
-    → cut_delivered r (replied stub entered view rest copy m left (cut_reached (left + r) x)) ≡ cut_delivered r (replied stub entered view rest copy m left x)
+pub replied_cut : (r stub : ℕ) (entered : List ℕ) (view : List Cell) (rest : ℕ) (copy m : Memory) (below : List Down) (left : ℕ) (x : Reached)
+    → cut_delivered r (replied stub entered view rest copy m below left (cut_reached (left + r) x)) ≡ cut_delivered r (replied stub entered view rest copy m below left x)
 unfolding replied
-replied_cut r stub entered view rest copy m left Reached.Idles = refl
-replied_cut r stub entered view rest copy m left (Reached.Opens k) = refl
-replied_cut r stub entered view rest copy m left (Reached.Ended v t) = refl
-replied_cut r stub entered view rest copy m left (Reached.Stopped kind at) = refl
-replied_cut r stub entered view rest copy m left (Reached.Needs at depth t) = refl
-replied_cut r stub entered view rest copy m left (Reached.Asks asked k) =
-    let d : Delivered = replied stub entered view rest copy m left (Reached.Asks asked k) in
-    ap (λ (k' : List Wire → Tree). record { reply = d.reply; user = record { agreed = d.user.agreed; entered = entered; work = AwaitsAnswer stub asked view left k' } })
+replied_cut r stub entered view rest copy m below left Reached.Idles = refl
+replied_cut r stub entered view rest copy m below left (Reached.Opens k) = refl
+replied_cut r stub entered view rest copy m below left (Reached.Ended v t) = refl
+replied_cut r stub entered view rest copy m below left (Reached.Stopped kind at) = refl
+replied_cut r stub entered view rest copy m below left (Reached.Needs at depth t) = refl
+replied_cut r stub entered view rest copy m below left (Reached.Asks asked k) =
+    let d : Delivered = replied stub entered view rest copy m below left (Reached.Asks asked k) in
+    ap (λ (k' : List Wire → Tree). record { reply = d.reply; user = record { agreed = d.user.agreed; entered = entered; work = AwaitsAnswer stub asked view left k' (map (cut_down r) below) } })
     (fun_ext (λ vs. cut_cut (r + left) (left + r) (omega arith) (k vs)))
-replied_cut r stub entered view rest copy m left (Reached.Crosses at func args depth k) =
-    let d : Delivered = replied stub entered view rest copy m left (Reached.Crosses at func args depth k) in
-    ap (λ (k' : Wire → Tree). record { reply = d.reply; user = record { agreed = d.user.agreed; entered = entered; work = AwaitsBack stub func view k' } })
+replied_cut r stub entered view rest copy m below left (Reached.Crosses at func args depth k) =
+    let d : Delivered = replied stub entered view rest copy m below left (Reached.Crosses at func args depth k) in
+    let down_by : (Wire → Tree) → Down = λ k'. record { stub = stub; func = func; depth = depth; goes = k' } in
+    ap (λ (k' : Wire → Tree). record { reply = d.reply; user = record { agreed = d.user.agreed; entered = entered; work = AwaitsBack (down_by k') (map (cut_down r) below) } })
     (fun_ext (λ v. cut_cut r (left + r) (omega arith) (k v)))
+
+cut_resting : (r : ℕ) (below : List Down) → cut_work r (resting below) ≡ resting (map (cut_down r) below)
+cut_resting r [] = refl
+cut_resting r (down ∷ below) = refl
+
+-- an upcall that ends leaves the downcalls below it up to the same cut
+same_resting : (r : ℕ) (below below' : List Down) → map (cut_down r) below ≡ map (cut_down r) below' → cut_work r (resting below) ≡ cut_work r (resting below')
+same_resting r below below' same = cut_resting r below ∙ ap resting same ∙ sym (cut_resting r below')
+
+abbrev with_work : Delivered → Work → Delivered
+with_work d work = record { reply = d.reply; user = record { agreed = d.user.agreed; entered = d.user.entered; work = work } }
+
+resting_in : (d : Delivered) {work work' : Work} → work ≡ work' → with_work d work ≡ with_work d work'
+resting_in d same = ap (with_work d) same
+
+-- and so does each reply
+replied_below : (r stub : ℕ) (entered : List ℕ) (view : List Cell) (rest : ℕ) (copy m : Memory) (below below' : List Down) (left : ℕ) (x : Reached) → map (cut_down r) below ≡ map (cut_down r) below'
+    → cut_delivered r (replied stub entered view rest copy m below left x) ≡ cut_delivered r (replied stub entered view rest copy m below' left x)
+unfolding replied
+replied_below r stub entered view rest copy m below below' left Reached.Idles same = resting_in (replied stub entered view rest copy m below left Reached.Idles) (same_resting r below below' same)
+replied_below r stub entered view rest copy m below below' left (Reached.Opens k) same = resting_in (replied stub entered view rest copy m below left (Reached.Opens k)) (same_resting r below below' same)
+replied_below r stub entered view rest copy m below below' left (Reached.Ended v t) same = resting_in (replied stub entered view rest copy m below left (Reached.Ended v t)) (same_resting r below below' same)
+replied_below r stub entered view rest copy m below below' left (Reached.Stopped kind at) same = refl
+replied_below r stub entered view rest copy m below below' left (Reached.Needs at depth t) same = refl
+replied_below r stub entered view rest copy m below below' left (Reached.Asks asked k) same =
+    let d : Delivered = replied stub entered view rest copy m below left (Reached.Asks asked k) in
+    ap (λ (ds : List Down). with_work d (AwaitsAnswer stub asked view left (λ vs. cut (r + left) (k vs)) ds)) same
+replied_below r stub entered view rest copy m below below' left (Reached.Crosses at func args depth k) same =
+    let d : Delivered = replied stub entered view rest copy m below left (Reached.Crosses at func args depth k) in
+    ap (λ (ds : List Down). with_work d (AwaitsBack (record { stub = stub; func = func; depth = depth; goes = λ v. cut r (k v) }) ds)) same
 
 abbrev cut_walked : ℕ → Walked Memory → Walked Memory
 cut_walked r w = walked (cut_reached (w.left + r) w.reached) w.memory w.left
 
 -- trees that are the same up to a cut behind the ticks that they run with are replied to alike
-same_run : (r s : ℕ) (t t' : Tree) (rest stub : ℕ) (entered : List ℕ) (view : List Cell) (copy : Memory) (u u' : User) → r + rest ≤ s → cut s t ≡ cut s t'
-    → cut_delivered r (done u (Runs t rest stub entered view copy)) ≡ cut_delivered r (done u' (Runs t' rest stub entered view copy))
-same_run r s t t' rest stub entered view copy u u' fits same = sym (replied_at t) ∙ ap reply_to same_walk ∙ replied_at t'
+same_run : (r s : ℕ) (t t' : Tree) (rest stub : ℕ) (entered : List ℕ) (view : List Cell) (copy : Memory) (below below' : List Down) (u u' : User) → r + rest ≤ s → cut s t ≡ cut s t' → map (cut_down r) below ≡ map (cut_down r) below'
+    → cut_delivered r (done u (Runs t rest stub entered view copy below)) ≡ cut_delivered r (done u' (Runs t' rest stub entered view copy below'))
+same_run r s t t' rest stub entered view copy below below' u u' fits same waits =
+    sym (replied_at t) ∙ ap reply_to same_walk ∙ replied_at t' ∙ replied_below r stub entered view rest copy (reached t').memory below below' (reached t').left (reached t').reached waits
   where
     reply_to : Walked Memory → Delivered
-    reply_to w = cut_delivered r (replied_to stub entered view rest copy w)
+    reply_to w = cut_delivered r (replied_to stub entered view rest copy below w)
 
     reached : Tree → Walked Memory
     reached x = walk (guarded view) rest x copy
 
     replied_at : (x : Tree) → reply_to (cut_walked r (reached x)) ≡ reply_to (reached x)
-    replied_at x = replied_cut r stub entered view rest copy (reached x).memory (reached x).left (reached x).reached
+    replied_at x = replied_cut r stub entered view rest copy (reached x).memory below (reached x).left (reached x).reached
 
     same_walk : cut_walked r (reached t) ≡ cut_walked r (reached t')
     same_walk =
@@ -107,29 +140,33 @@ same_refused : (reason r : ℕ) (u u' : User) → cut_user r u ≡ cut_user r u'
 same_refused reason r u u' users = ap (λ (v : User). record { reply = message.Refuse reason; user = v }) users
 
 same_done :
-    (b : Bool) (r s : ℕ) (t t' : Tree) (rest stub : ℕ) (entered : List ℕ) (view : List Cell) (copy : Memory) (u u' : User) → r + rest ≤ s → cut s t ≡ cut s t' → cut_user r u ≡ cut_user r u'
-    → cut_delivered r (done u (when_fits b (Runs t rest stub entered view copy))) ≡ cut_delivered r (done u' (when_fits b (Runs t' rest stub entered view copy)))
-same_done true r s t t' rest stub entered view copy u u' fits same users = same_run r s t t' rest stub entered view copy u u' fits same
-same_done false r s t t' rest stub entered view copy u u' fits same users = same_refused 3 r u u' users
+    (b : Bool) (r s : ℕ) (t t' : Tree) (rest stub : ℕ) (entered : List ℕ) (view : List Cell) (copy : Memory) (below below' : List Down) (u u' : User) → r + rest ≤ s → cut s t ≡ cut s t' → map (cut_down r) below ≡ map (cut_down r) below' → cut_user r u ≡ cut_user r u'
+    → cut_delivered r (done u (when_fits b (Runs t rest stub entered view copy below))) ≡ cut_delivered r (done u' (when_fits b (Runs t' rest stub entered view copy below')))
+same_done true r s t t' rest stub entered view copy below below' u u' fits same waits users = same_run r s t t' rest stub entered view copy below below' u u' fits same waits
+same_done false r s t t' rest stub entered view copy below below' u u' fits same waits users = same_refused 3 r u u' users
 
 module _ (d : Driver) where
   -- a message needs what is held up to the ticks that it grants and those that come later, and fuel for them
   opened_cut :
       (n n' r : ℕ) (copy : Memory) (entered : List ℕ) (work : Work) (x : Message) (u u' : User) → r + granted (Ok x) < n → r + granted (Ok x) < n' → cut_user r u ≡ cut_user r u'
       → cut_delivered r (done u (opened d n copy entered work x)) ≡ cut_delivered r (done u' (opened d n' copy entered (cut_work (r + granted (Ok x)) work) x))
-  unfolding opened
+  unfolding opened call_fits
   opened_cut n n' r copy entered Nothing (message.Call func depth rest args told) u u' less less' users =
-      same_done _ r (r + rest) (started d.user n func args depth Tree.Idle) (started d.user n' func args depth Tree.Idle) rest _ _ _ _ u u' (le_refl (r + rest))
-      (started_fuel_is_no_matter d.user n n' (r + rest) func less less' args depth Tree.Idle) users
+      same_done _ r (r + rest) (started d.user n func args depth Tree.Idle) (started d.user n' func args depth Tree.Idle) rest _ _ _ _ [] [] u u' (le_refl (r + rest))
+      (started_fuel_is_no_matter d.user n n' (r + rest) func less less' args depth Tree.Idle) refl users
   opened_cut n n' r copy entered Nothing _ u u' less less' users = same_refused 2 r u u' users
-  opened_cut n n' r copy entered (AwaitsBack stub func seen goes) (message.Back rest result told) u u' less less' users =
-      same_done _ r (r + rest) (goes result) (cut (r + rest) (goes result)) rest _ _ _ _ u u' (le_refl (r + rest))
-      (sym (cut_cut (r + rest) (r + rest) (le_refl (r + rest)) (goes result))) users
-  opened_cut n n' r copy entered (AwaitsBack stub func seen goes) _ u u' less less' users = same_refused 2 r u u' users
-  opened_cut n n' r copy entered (AwaitsAnswer stub asked seen left goes) (message.Answer results deaths news) u u' less less' users =
-      same_done _ r (r + 0 + left) (goes results) (cut (r + 0 + left) (goes results)) left _ _ _ _ u u' (omega arith)
-      (sym (cut_cut (r + 0 + left) (r + 0 + left) (le_refl (r + 0 + left)) (goes results))) users
-  opened_cut n n' r copy entered (AwaitsAnswer stub asked seen left goes) _ u u' less less' users = same_refused 2 r u u' users
+  opened_cut n n' r copy entered (AwaitsBack down below) (message.Call func depth rest args told) u u' less less' users =
+      same_done _ r (r + rest) (started d.user n func args depth Tree.Idle) (started d.user n' func args depth Tree.Idle) rest _ _ _ _
+      (down ∷ below) (map (cut_down (r + rest)) (down ∷ below)) u u' (le_refl (r + rest))
+      (started_fuel_is_no_matter d.user n n' (r + rest) func less less' args depth Tree.Idle) (sym (cut_cut_below r (r + rest) (down ∷ below) (omega arith))) users
+  opened_cut n n' r copy entered (AwaitsBack down below) (message.Back rest result told) u u' less less' users =
+      same_done _ r (r + rest) (down.goes result) (cut (r + rest) (down.goes result)) rest _ _ _ _ below (map (cut_down (r + rest)) below) u u' (le_refl (r + rest))
+      (sym (cut_cut (r + rest) (r + rest) (le_refl (r + rest)) (down.goes result))) (sym (cut_cut_below r (r + rest) below (omega arith))) users
+  opened_cut n n' r copy entered (AwaitsBack down below) _ u u' less less' users = same_refused 2 r u u' users
+  opened_cut n n' r copy entered (AwaitsAnswer stub asked seen left goes below) (message.Answer results deaths news) u u' less less' users =
+      same_done _ r (r + 0 + left) (goes results) (cut (r + 0 + left) (goes results)) left _ _ _ _ below (map (cut_down (r + 0)) below) u u' (omega arith)
+      (sym (cut_cut (r + 0 + left) (r + 0 + left) (le_refl (r + 0 + left)) (goes results))) (sym (cut_cut_below r (r + 0) below (omega arith))) users
+  opened_cut n n' r copy entered (AwaitsAnswer stub asked seen left goes below) _ u u' less less' users = same_refused 2 r u u' users
 
   deliver_cut : (n n' r : ℕ) (u : User) (x : Reading) → r + granted x < n → r + granted x < n' → cut_delivered r (deliver d n u x) ≡ cut_delivered r (deliver d n' (cut_user (r + granted x) u) x)
   unfolding deliver

@@ -9,28 +9,29 @@ use Rattle.mdr_model.specs.User.{allowance, granted}
 use Rattle.mdr_model.proofs.FuelLaws.{allowance-append, allowance_one}
 use Rattle.mdr_model.proofs.Tests.{not_both}
 use Rattle.mdr_split.specs.Refusals.{RefusedAreLeftOut, RefusedLeavesUser, accepted}
-use Rattle.mdr_split.specs.User.{Delivered, Opened, Refuses, Runs, User, deliver, done, first_user, guarded, opened, replied, user_after, user_reply}
-use Rattle.mdr_split.proofs.FuelLaws.{cut_delivered, cut_user, reply_with_fuel, same_deliver, same_fewer, user_after-append}
+use Rattle.mdr_split.specs.User.{Delivered, Down, Opened, Refuses, Runs, User, deliver, done, first_user, guarded, opened, replied, user_after, user_reply}
+use Rattle.mdr_split.specs.Fuel.{cut_delivered, cut_user}
+use Rattle.mdr_split.proofs.FuelLaws.{reply_with_fuel, same_deliver, same_fewer, user_after-append}
 use Rattle.mdr_watched.specs.Driver.{Driver}
 
 -- ---- a refused message
 
 -- what runs is never refused
-no_refusal : (stub : ℕ) (entered : List ℕ) (view : List Cell) (rest : ℕ) (copy m : Memory) (left : ℕ) (x : Reached) → is_refusal (replied stub entered view rest copy m left x).reply ≡ false
+pub no_refusal : (stub : ℕ) (entered : List ℕ) (view : List Cell) (rest : ℕ) (copy m : Memory) (below : List Down) (left : ℕ) (x : Reached) → is_refusal (replied stub entered view rest copy m below left x).reply ≡ false
 unfolding replied
-no_refusal stub entered view rest copy m left Reached.Idles = refl
-no_refusal stub entered view rest copy m left (Reached.Opens k) = refl
-no_refusal stub entered view rest copy m left (Reached.Ended v t) = refl
-no_refusal stub entered view rest copy m left (Reached.Stopped kind at) = refl
-no_refusal stub entered view rest copy m left (Reached.Needs at depth t) = refl
-no_refusal stub entered view rest copy m left (Reached.Asks asked k) = refl
-no_refusal stub entered view rest copy m left (Reached.Crosses at func args depth k) = refl
+no_refusal stub entered view rest copy m below left Reached.Idles = refl
+no_refusal stub entered view rest copy m below left (Reached.Opens k) = refl
+no_refusal stub entered view rest copy m below left (Reached.Ended v t) = refl
+no_refusal stub entered view rest copy m below left (Reached.Stopped kind at) = refl
+no_refusal stub entered view rest copy m below left (Reached.Needs at depth t) = refl
+no_refusal stub entered view rest copy m below left (Reached.Asks asked k) = refl
+no_refusal stub entered view rest copy m below left (Reached.Crosses at func args depth k) = refl
 
 refused_done : (u : User) (o : Opened) → is_refusal (done u o).reply ≡ true → (done u o).user ≡ u
 refused_done u (Refuses reason) e = refl
-refused_done u (Runs tree rest stub entered view copy) e =
+refused_done u (Runs tree rest stub entered view copy below) e =
     let w : Walked Memory = walk (guarded view) rest tree copy in
-    absurd (not_both e (no_refusal stub entered view rest copy w.memory w.left w.reached))
+    absurd (not_both e (no_refusal stub entered view rest copy w.memory below w.left w.reached))
 
 pub refused_leaves_user : RefusedLeavesUser
 unfolding deliver

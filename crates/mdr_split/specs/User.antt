@@ -2,6 +2,7 @@
 -- The user half's reply to the messages so far. It knows its own half's text, the plan and the messages alone.
 use Rattle.std.specs.Prelude.{ℕ, suc, ◌-◌, Bool, true, false, not, ◌&&◌, List, [], ◌∷◌, ◌++◌, map, filter, Option, Some, None, slice_get, Ok, Err, nat_lt, nat_le, is_none}
 use Rattle.std.specs.List.{list_all}
+use Rattle.mdr_core.specs.declared.place.At.{At}
 use Rattle.mdr_core.specs.declared.plan.Key.{Key}
 use Rattle.mdr_core.specs.declared.program.Program.{Program}
 use Rattle.mdr_core.specs.declared.stop.StopKind.TheVariants as stop
@@ -34,13 +35,28 @@ use Rattle.mdr_watched.specs.Driver.{Driver, is_user, touched_by}
 
 -- ---- states
 
--- what is open between messages, in the upcall whose Call named this function: nothing; a downcall, with its function, the visible cells and what its result leads to; or a service, with the ticks left too
+-- a downcall that waits for what it gives back, in the upcall whose Call named `stub`: the function that it calls, how many functions are active before that one, and what its result leads to
+pub record Down : Type 0 where
+  pub stub : ℕ
+  pub func : ℕ
+  pub depth : ℕ
+  pub goes : Wire → Tree
+
+-- what is open between messages: nothing; a downcall; or a service, in the upcall whose Call named `stub`, with the visible
+-- cells, the ticks left and what its results lead to. Below are the downcalls in which the kernel half called back, the
+-- innermost first
 pub data Work : Type 0 where
   Nothing : Work
-  AwaitsBack : (stub func : ℕ) (view : List Cell) (goes : Wire → Tree) → Work
-  AwaitsAnswer : (stub : ℕ) (asked : Asked) (view : List Cell) (left : ℕ) (goes : List Wire → Tree) → Work
+  AwaitsBack : (down : Down) (below : List Down) → Work
+  AwaitsAnswer : (stub : ℕ) (asked : Asked) (view : List Cell) (left : ℕ) (goes : List Wire → Tree) (below : List Down) → Work
 
--- the agreed copy, which between messages is also what the user half holds: each reply tells all that user code changed; and the serials of the blocks that came in an answer to an `enter` and live, whatever upcall they came in
+-- where an upcall ended, the downcall below it waits again
+abbrev pub resting : List Down → Work
+resting [] = Nothing
+resting (down ∷ below) = AwaitsBack down below
+
+-- the agreed copy, which between messages is also what the user half holds: each reply tells all that user code changed;
+-- and the serials of the blocks that came in an answer to an `enter` and live, whatever upcall they came in
 pub record User : Type 0 where
   pub agreed : Memory
   pub entered : List ℕ
@@ -74,15 +90,21 @@ agrees false b = not b
 unfoldable pub objects_fit : (leaving deaths entered : List ℕ) → Bool
 objects_fit leaving deaths entered = list_all (λ n. agrees (has leaving n) (has deaths n)) entered
 
-unfoldable pub call_fits : Driver → Memory → (entered : List ℕ) → ℕ → ℕ → List Wire → Told → Bool
-call_fits d copy entered func depth args told =
+-- a callback has more functions active than the downcall that it came in
+abbrev pub is_deeper : List Down → (depth : ℕ) → Bool
+is_deeper [] depth = true
+is_deeper (down ∷ below) depth = nat_lt down.depth depth
+
+unfoldable pub call_fits : Driver → Memory → (entered : List ℕ) → List Down → ℕ → ℕ → List Wire → Told → Bool
+call_fits d copy entered below func depth args told =
     let copy' : Memory = renewed_copy d.program told.deaths told.news copy in
-    is_user d.plan func
+    is_deeper below depth
+    && (is_user d.plan func
     && (nat_le depth 255
     && (lives_fit d.program copy told.deaths told.news
     && (objects_fit [] told.deaths entered
     && (is_none (args_fault (fits (user_places d copy')) 0 (params_of (slice_get d.program.funcs func)) args)
-    && cells_fit d func copy' told.view told.runs))))
+    && cells_fit d func copy' told.view told.runs)))))
 
 unfoldable pub back_fits : Driver → Memory → (entered : List ℕ) → (stub func : ℕ) → Wire → Told → Bool
 back_fits d copy entered stub func result told =
@@ -116,26 +138,33 @@ coming_by _ news = []
 unfoldable pub entered_behind : (service : ℕ) → (deaths : List ℕ) → List New → (entered : List ℕ) → List ℕ
 entered_behind service deaths news entered = less deaths entered ++ coming_by (service_numbered service) news
 
--- a message is refused, 2 where its kind isn't awaited, 3 where its content doesn't fit; or a tree runs, with so many ticks, in the upcall of a function, while these entered blocks live, over these visible cells and this copy
+-- a message is refused, 2 where its kind isn't awaited, 3 where its content doesn't fit; or a tree runs, with so many ticks,
+-- in the upcall of a function, while these entered blocks live, over these visible cells and this copy, with these downcalls
+-- below
 pub data Opened : Type 0 where
   Refuses : (reason : ℕ) → Opened
-  Runs : (tree : Tree) (rest stub : ℕ) (entered : List ℕ) (view : List Cell) (copy : Memory) → Opened
+  Runs : (tree : Tree) (rest stub : ℕ) (entered : List ℕ) (view : List Cell) (copy : Memory) (below : List Down) → Opened
 
 abbrev pub when_fits : Bool → Opened → Opened
 when_fits true opened = opened
 when_fits false opened = Refuses 3
 
+-- an upcall begins, below it what is open
+abbrev pub begun : Driver → ℕ → Memory → (entered : List ℕ) → List Down → (func depth rest : ℕ) → List Wire → Told → Opened
+begun d fuel copy entered below func depth rest args told =
+    when_fits (call_fits d copy entered below func depth args told)
+    (Runs (started d.user fuel func args depth Tree.Idle) rest func entered (cells_of_runs told.view) (agreed_after d.program told copy) below)
+
 unfoldable pub opened : Driver → ℕ → Memory → (entered : List ℕ) → Work → Message → Opened
-opened d fuel copy entered Nothing (message.Call func depth rest args told) =
-    when_fits (call_fits d copy entered func depth args told)
-    (Runs (started d.user fuel func args depth Tree.Idle) rest func entered (cells_of_runs told.view) (agreed_after d.program told copy))
-opened d fuel copy entered (AwaitsBack stub func seen goes) (message.Back rest result told) =
-    when_fits (back_fits d copy entered stub func result told)
-    (Runs (goes result) rest stub entered (cells_of_runs told.view) (agreed_after d.program told copy))
-opened d fuel copy entered (AwaitsAnswer stub asked seen left goes) (message.Answer results deaths news) =
+opened d fuel copy entered Nothing (message.Call func depth rest args told) = begun d fuel copy entered [] func depth rest args told
+opened d fuel copy entered (AwaitsBack down below) (message.Call func depth rest args told) = begun d fuel copy entered (down ∷ below) func depth rest args told
+opened d fuel copy entered (AwaitsBack down below) (message.Back rest result told) =
+    when_fits (back_fits d copy entered down.stub down.func result told)
+    (Runs (down.goes result) rest down.stub entered (cells_of_runs told.view) (agreed_after d.program told copy) below)
+opened d fuel copy entered (AwaitsAnswer stub asked seen left goes below) (message.Answer results deaths news) =
     when_fits (answer_fits d copy entered asked results deaths news)
     (let copy' : Memory = renewed_copy d.program deaths news copy in
-    Runs (goes results) left stub (entered_behind asked.service deaths news entered) (grown d stub copy' news seen) copy')
+    Runs (goes results) left stub (entered_behind asked.service deaths news entered) (grown d stub copy' news seen) copy' below)
 opened d fuel copy entered work m = Refuses 2
 
 -- ---- the code of the user half
@@ -157,41 +186,40 @@ pub record Delivered : Type 0 where
   pub reply : Message
   pub user : User
 
-abbrev pub closed : Message → (entered : List ℕ) → Memory → Delivered
-closed reply entered copy = record { reply = reply; user = record { agreed = copy; entered = entered; work = Nothing } }
+abbrev pub settled : Message → (entered : List ℕ) → Memory → Work → Delivered
+settled reply entered copy work = record { reply = reply; user = record { agreed = copy; entered = entered; work = work } }
 
-abbrev pub gives_back : (ticks : ℕ) → Wire → List Run → (entered : List ℕ) → (copy : Memory) → Delivered
-gives_back ticks v runs entered copy = closed (message.Return ticks v runs) entered (put_runs runs copy)
+-- an upcall ends
+abbrev pub gives_back : (ticks : ℕ) → Wire → List Run → (entered : List ℕ) → (copy : Memory) → List Down → Delivered
+gives_back ticks v runs entered copy below = settled (message.Return ticks v runs) entered (put_runs runs copy) (resting below)
+
+-- a stop ends all upcalls
+abbrev pub gives_up : (ticks stop : ℕ) → At → List Run → (entered : List ℕ) → (copy : Memory) → Delivered
+gives_up ticks stop at runs entered copy = settled (message.Stop ticks stop at runs) entered (put_runs runs copy) Nothing
 
 -- what a walk of the user half tells: the ticks since the message, the event, and the visible cells that changed
-unfoldable pub replied : (stub : ℕ) → (entered : List ℕ) → List Cell → (rest : ℕ) → (copy m : Memory) → (left : ℕ) → Reached → Delivered
-replied stub entered view rest copy m left (Reached.Ended v t) = gives_back (rest - left) (normal m v) (changes view copy m) entered copy
-replied stub entered view rest copy m left (Reached.Stopped kind at) =
-    let runs : List Run = changes view copy m in closed (message.Stop (rest - left) (stop_number kind) at runs) entered (put_runs runs copy)
-replied stub entered view rest copy m left (Reached.Needs at d t) =
-    let runs : List Run = changes view copy m in closed (message.Stop (rest - left) (stop_number stop.Ticks) at runs) entered (put_runs runs copy)
-replied stub entered view rest copy m left Reached.Idles = gives_back (rest - left) wire.NoValue (changes view copy m) entered copy
-replied stub entered view rest copy m left (Reached.Opens goes) = gives_back (rest - left) wire.NoValue (changes view copy m) entered copy
-replied stub entered view rest copy m left (Reached.Asks asked goes) =
+unfoldable pub replied : (stub : ℕ) → (entered : List ℕ) → List Cell → (rest : ℕ) → (copy m : Memory) → List Down → (left : ℕ) → Reached → Delivered
+replied stub entered view rest copy m below left (Reached.Ended v t) = gives_back (rest - left) (normal m v) (changes view copy m) entered copy below
+replied stub entered view rest copy m below left (Reached.Stopped kind at) = gives_up (rest - left) (stop_number kind) at (changes view copy m) entered copy
+replied stub entered view rest copy m below left (Reached.Needs at d t) = gives_up (rest - left) (stop_number stop.Ticks) at (changes view copy m) entered copy
+replied stub entered view rest copy m below left Reached.Idles = gives_back (rest - left) wire.NoValue (changes view copy m) entered copy below
+replied stub entered view rest copy m below left (Reached.Opens goes) = gives_back (rest - left) wire.NoValue (changes view copy m) entered copy below
+replied stub entered view rest copy m below left (Reached.Asks asked goes) =
     let runs : List Run = changes view copy m in
-    record {
-      reply = message.Ask (rest - left) asked.at asked.service (map (normal m) asked.args) asked.shapes asked.bytes runs;
-      user = record { agreed = put_runs runs copy; entered = entered; work = AwaitsAnswer stub asked view left goes };
-    }
-replied stub entered view rest copy m left (Reached.Crosses at func args depth goes) =
+    settled (message.Ask (rest - left) asked.at asked.service (map (normal m) asked.args) asked.shapes asked.bytes runs) entered (put_runs runs copy)
+    (AwaitsAnswer stub asked view left goes below)
+replied stub entered view rest copy m below left (Reached.Crosses at func args depth goes) =
     let runs : List Run = changes view copy m in
-    record {
-      reply = message.Down (rest - left) at depth func (map (normal m) args) runs;
-      user = record { agreed = put_runs runs copy; entered = entered; work = AwaitsBack stub func view goes };
-    }
+    settled (message.Down (rest - left) at depth func (map (normal m) args) runs) entered (put_runs runs copy)
+    (AwaitsBack (record { stub = stub; func = func; depth = depth; goes = goes }) below)
 
-abbrev pub replied_to : (stub : ℕ) → (entered : List ℕ) → List Cell → ℕ → Memory → Walked Memory → Delivered
-replied_to stub entered view rest copy w = replied stub entered view rest copy w.memory w.left w.reached
+abbrev pub replied_to : (stub : ℕ) → (entered : List ℕ) → List Cell → ℕ → Memory → List Down → Walked Memory → Delivered
+replied_to stub entered view rest copy below w = replied stub entered view rest copy w.memory below w.left w.reached
 
 -- a refused message changes nothing
 abbrev pub done : User → Opened → Delivered
 done u (Refuses reason) = record { reply = message.Refuse reason; user = u }
-done u (Runs tree rest stub entered view copy) = replied_to stub entered view rest copy (walk (guarded view) rest tree copy)
+done u (Runs tree rest stub entered view copy below) = replied_to stub entered view rest copy below (walk (guarded view) rest tree copy)
 
 -- one message
 unfoldable pub deliver : Driver → ℕ → User → Reading → Delivered

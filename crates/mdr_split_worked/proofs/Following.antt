@@ -23,30 +23,35 @@ use Rattle.mdr_watched.specs.Driver.{Driver}
 
 -- a message that is awaited fits
 abbrev pub fits_now : Driver → Memory → (entered : List ℕ) → Work → Message → Bool
-fits_now d copy entered Nothing (message.Call func depth rest args told) = call_fits d copy entered func depth args told
-fits_now d copy entered (AwaitsBack stub func seen goes) (message.Back rest result told) = back_fits d copy entered stub func result told
-fits_now d copy entered (AwaitsAnswer stub asked seen left goes) (message.Answer results deaths news) = answer_fits d copy entered asked results deaths news
+fits_now d copy entered Nothing (message.Call func depth rest args told) = call_fits d copy entered [] func depth args told
+fits_now d copy entered (AwaitsBack down below) (message.Call func depth rest args told) = call_fits d copy entered (down ∷ below) func depth args told
+fits_now d copy entered (AwaitsBack down below) (message.Back rest result told) = back_fits d copy entered down.stub down.func result told
+fits_now d copy entered (AwaitsAnswer stub asked seen left goes below) (message.Answer results deaths news) = answer_fits d copy entered asked results deaths news
 fits_now d copy entered work m = true
 
 -- what it opens then
 abbrev pub opens : Driver → ℕ → Memory → (entered : List ℕ) → Work → Message → Opened
 opens d fuel copy entered Nothing (message.Call func depth rest args told) =
-    Runs (started d.user fuel func args depth Tree.Idle) rest func entered (cells_of_runs told.view) (agreed_after d.program told copy)
-opens d fuel copy entered (AwaitsBack stub func seen goes) (message.Back rest result told) =
-    Runs (goes result) rest stub entered (cells_of_runs told.view) (agreed_after d.program told copy)
-opens d fuel copy entered (AwaitsAnswer stub asked seen left goes) (message.Answer results deaths news) =
+    Runs (started d.user fuel func args depth Tree.Idle) rest func entered (cells_of_runs told.view) (agreed_after d.program told copy) []
+opens d fuel copy entered (AwaitsBack down below) (message.Call func depth rest args told) =
+    Runs (started d.user fuel func args depth Tree.Idle) rest func entered (cells_of_runs told.view) (agreed_after d.program told copy) (down ∷ below)
+opens d fuel copy entered (AwaitsBack down below) (message.Back rest result told) =
+    Runs (down.goes result) rest down.stub entered (cells_of_runs told.view) (agreed_after d.program told copy) below
+opens d fuel copy entered (AwaitsAnswer stub asked seen left goes below) (message.Answer results deaths news) =
     let copy' : Memory = renewed_copy d.program deaths news copy in
-    Runs (goes results) left stub (entered_behind asked.service deaths news entered) (grown d stub copy' news seen) copy'
+    Runs (goes results) left stub (entered_behind asked.service deaths news entered) (grown d stub copy' news seen) copy' below
 opens d fuel copy entered work m = Refuses 2
 
 opens_so : (d : Driver) (fuel : ℕ) (copy : Memory) (entered : List ℕ) (work : Work) (m : Message) → fits_now d copy entered work m ≡ true → opened d fuel copy entered work m ≡ opens d fuel copy entered work m
 unfolding opened
 opens_so d fuel copy entered Nothing (message.Call func depth rest args told) e =
     ap (λ (b : Bool). when_fits b (opens d fuel copy entered Nothing (message.Call func depth rest args told))) e
-opens_so d fuel copy entered (AwaitsBack stub func seen goes) (message.Back rest result told) e =
-    ap (λ (b : Bool). when_fits b (opens d fuel copy entered (AwaitsBack stub func seen goes) (message.Back rest result told))) e
-opens_so d fuel copy entered (AwaitsAnswer stub asked seen left goes) (message.Answer results deaths news) e =
-    ap (λ (b : Bool). when_fits b (opens d fuel copy entered (AwaitsAnswer stub asked seen left goes) (message.Answer results deaths news))) e
+opens_so d fuel copy entered (AwaitsBack down below) (message.Call func depth rest args told) e =
+    ap (λ (b : Bool). when_fits b (opens d fuel copy entered (AwaitsBack down below) (message.Call func depth rest args told))) e
+opens_so d fuel copy entered (AwaitsBack down below) (message.Back rest result told) e =
+    ap (λ (b : Bool). when_fits b (opens d fuel copy entered (AwaitsBack down below) (message.Back rest result told))) e
+opens_so d fuel copy entered (AwaitsAnswer stub asked seen left goes below) (message.Answer results deaths news) e =
+    ap (λ (b : Bool). when_fits b (opens d fuel copy entered (AwaitsAnswer stub asked seen left goes below) (message.Answer results deaths news))) e
 opens_so d fuel copy entered work m e = refl
 
 abbrev pub fits_user : Driver → User → Message → Bool

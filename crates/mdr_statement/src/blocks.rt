@@ -34,7 +34,7 @@ pub fn block(
     ensures shorter { IfOk result (λ x. length x.1.now < length tokens.now) }
 {
     let (nodes, rest) = nested(reader, tokens, level)?;
-    ended_by(reader, Sort::CloseBrace, rest, block_node(place, nodes))
+    Ok(ended_by(reader, Sort::CloseBrace, rest, block_node(place, nodes))?)
 }
 
 /// What stands in a block of a level, where anything may stand there.

@@ -37,8 +37,8 @@ pub fn statement(reader: Reader, tokens: &[Token], level: u32) -> Result<(Ended,
     match sort {
         Sort::Semicolon => Ok((empty_statement(token.place), rest)),
         Sort::OpenBrace => block(reader, rest, token.place, level),
-        Sort::Break => break_behind(reader, rest, token.place),
-        Sort::Continue => continue_behind(reader, rest, token.place),
+        Sort::Break => Ok(break_behind(reader, rest, token.place)?),
+        Sort::Continue => Ok(continue_behind(reader, rest, token.place)?),
         Sort::Return => return_behind(reader, rest, token, level),
         _ => {
             if is_level_free(level + 1) {

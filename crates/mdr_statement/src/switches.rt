@@ -54,12 +54,12 @@ fn switch_body(
 {
     let (_, rest) = take(reader.halves, Sort::OpenBrace, tokens)?;
     let (list, rest) = clauses(reader, rest, level + 1)?;
-    ended_by(
+    Ok(ended_by(
         reader,
         Sort::CloseBrace,
         rest,
         switch_node(place, value, list),
-    )
+    )?)
 }
 
 /// The clauses of a `switch`.

@@ -76,7 +76,9 @@ fn define_piece(alloc: Global, place: Place, len: usize, bytes: &[u8]) -> Result
         line: place.line,
         column: place.column + at as u32,
     };
-    let (value, kind, more) = number_at(number_place, number)?;
+    let Some((value, kind, more)) = number_at(number) else {
+        return Err(LexError::BadNumber(number_place));
+    };
     let name = Items::from_slice(alloc, name)?;
     Ok(Piece::token(Lexeme::Define(name, is_negative, value, kind), at + more))
 }

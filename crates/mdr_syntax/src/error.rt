@@ -1,9 +1,9 @@
 // Why a source has no tokens.
 
 ghost use Rattle.std.specs.Prelude.{◌≡◌};
-ghost use Rattle.mdr_syntax.specs.declared.error.LexError.TheVariants.{OutOfMemory};
+ghost use Rattle.mdr_syntax.specs.declared.error.LexError.TheVariants.{OutOfMemory as Wanting};
 
-use mdr_core::Place;
+use mdr_core::{OutOfMemory, Place};
 use std::alloc::{AllocError, AllocFailed};
 
 /// The first fault of a source, and its place.
@@ -21,7 +21,7 @@ pub enum LexError {
 }
 
 impl From<AllocError> for LexError {
-    ghost from_gives = { λ _ e. e ≡ OutOfMemory };
+    ghost from_gives = { λ _ e. e ≡ Wanting };
 
     fn from(_e: AllocError) -> LexError {
         LexError::OutOfMemory
@@ -29,9 +29,17 @@ impl From<AllocError> for LexError {
 }
 
 impl<T: Drop> From<AllocFailed<T>> for LexError {
-    ghost from_gives = { λ _ e. e ≡ OutOfMemory };
+    ghost from_gives = { λ _ e. e ≡ Wanting };
 
     fn from(_e: AllocFailed<T>) -> LexError {
+        LexError::OutOfMemory
+    }
+}
+
+impl From<OutOfMemory> for LexError {
+    ghost from_gives = { λ _ e. e ≡ Wanting };
+
+    fn from(_e: OutOfMemory) -> LexError {
         LexError::OutOfMemory
     }
 }

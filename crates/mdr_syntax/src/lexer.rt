@@ -9,11 +9,8 @@ ghost use Rattle.mdr_syntax.specs.Tokens.{is_fresh_after, tokens_of_piece, token
 use crate::error::LexError;
 use crate::piece::piece_at;
 use crate::token::{Lexeme, Token};
-use mdr_core::{Items, Place};
+use mdr_core::{Items, Limit, Place, within};
 use std::alloc::{AllocError, Global};
-
-/// The longest text: a longer one would have places that 32 bits don't hold.
-const LONGEST: usize = 0xffff_fffe;
 
 /// The place behind a byte.
 fn place_past(place: Place, b: u8) -> Place
@@ -79,14 +76,13 @@ fn push_piece(
     Ok(())
 }
 
-/// The tokens of a text, with its end behind them, or the first fault.
+/// The tokens of a text, with its end behind them, or the first fault. A longer text than `Limit::Bytes` would have
+/// places that 32 bits don't hold.
 pub fn tokens(alloc: Global, bytes: &[u8]) -> Result<Items<Token>, LexError>
     ensures exact { Gives result (tokens_of bytes.now) }
     ensures long { 2 ^ 32 - 2 < length bytes.now → result ≡ Err LexError.OutOfMemory }
 {
-    if bytes.len() > LONGEST {
-        return Err(LexError::OutOfMemory);
-    }
+    within(bytes.len() as u64, Limit::Bytes)?;
     let mut tokens = Items::new(alloc);
     let mut place = Place { line: 1, column: 1 };
     let mut is_fresh = true;

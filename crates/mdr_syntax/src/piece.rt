@@ -1,7 +1,8 @@
 // What stands at the front of a text.
 
-ghost use Rattle.std.specs.Prelude.{◌≡◌, ◌+◌, ◌<◌, ◌^◌, length, IfOk};
-ghost use Rattle.mdr_syntax.specs.Gives.{Gives};
+ghost use Rattle.std.specs.Prelude.{◌≡◌, ◌+◌, ◌<◌, ◌^◌, length, IfOk, IfSome};
+ghost use Rattle.mdr_syntax.specs.declared.error.LexError.TheVariants.{BadNumber, OpenText};
+ghost use Rattle.mdr_syntax.specs.Gives.{Gives, or_fault};
 ghost use Rattle.mdr_syntax.specs.Pieces.{gap_of, token_of, word_at, number_at, number_piece, character_piece, text_piece, punctuation_piece, piece_at};
 
 use crate::bytes::{is_letter, is_space, name_len, number_len};
@@ -52,39 +53,41 @@ fn word(alloc: Global, bytes: &[u8]) -> Result<Piece, LexError>
     Ok(Piece::token(Lexeme::Word(name), more))
 }
 
-/// The number at the front: its value, its kind, and how many bytes it has behind its first.
+/// The number at the front, if it is one: its value, its kind, and how many bytes it has behind its first.
 #[tactic(auto, unfolding(crate::specs::Pieces::number_at))]
-pub fn number_at(place: Place, bytes: &[u8]) -> Result<(u64, Kind, usize), LexError>
+pub fn number_at(bytes: &[u8]) -> Option<(u64, Kind, usize)>
     requires { 0 < length bytes.now }
-    ensures value { Gives result (number_at place bytes.now) }
-    ensures within { IfOk result (λ n. n.2 < length bytes.now) }
+    ensures value { (place : Place) → number_at place bytes.now ≡ or_fault result (BadNumber place) }
+    ensures within { IfSome result (λ n. n.2 < length bytes.now) }
 {
     let more = number_len(&bytes[1..]);
     match number_of(&bytes[..1 + more]) {
-        Some((value, kind)) => Ok((value, kind, more)),
-        None => Err(LexError::BadNumber(place)),
+        Some((value, kind)) => Some((value, kind, more)),
+        None => None,
     }
 }
 
 #[tactic(auto, unfolding(crate::specs::Pieces::number_piece))]
-fn number_piece(place: Place, bytes: &[u8]) -> Result<Piece, LexError>
+fn number_piece(bytes: &[u8]) -> Option<Piece>
     requires { 0 < length bytes.now }
-    ensures value { Gives result (number_piece place bytes.now) }
-    ensures within { IfOk result (λ p. p.more < length bytes.now) }
+    ensures value { (place : Place) → number_piece place bytes.now ≡ or_fault result (BadNumber place) }
+    ensures within { IfSome result (λ p. p.more < length bytes.now) }
 {
-    let (value, kind, more) = number_at(place, bytes)?;
-    Ok(Piece::token(Lexeme::Number(value, kind), more))
+    match number_at(bytes) {
+        Some((value, kind, more)) => Some(Piece::token(Lexeme::Number(value, kind), more)),
+        None => None,
+    }
 }
 
 #[tactic(auto, unfolding(crate::specs::Pieces::character_piece))]
-fn character_piece(place: Place, bytes: &[u8]) -> Result<Piece, LexError>
+fn character_piece(bytes: &[u8]) -> Option<Piece>
     requires { 0 < length bytes.now }
-    ensures value { Gives result (character_piece place bytes.now) }
-    ensures within { IfOk result (λ p. p.more < length bytes.now) }
+    ensures value { (place : Place) → character_piece place bytes.now ≡ or_fault result (OpenText place) }
+    ensures within { IfSome result (λ p. p.more < length bytes.now) }
 {
     match character(&bytes[1..]) {
-        Some((byte, more)) => Ok(Piece::token(Lexeme::Number(byte as u64, Kind::S32), more)),
-        None => Err(LexError::OpenText(place)),
+        Some((byte, more)) => Some(Piece::token(Lexeme::Number(byte as u64, Kind::S32), more)),
+        None => None,
     }
 }
 
@@ -130,10 +133,10 @@ pub fn piece_at(
     } else if is_letter(first) {
         word(alloc, bytes)
     } else if first.is_ascii_digit() {
-        number_piece(place, bytes)
+        number_piece(bytes).ok_or(LexError::BadNumber(place))
     } else {
         match first {
-            b'\'' => character_piece(place, bytes),
+            b'\'' => character_piece(bytes).ok_or(LexError::OpenText(place)),
             b'"' => text_piece(alloc, place, bytes),
             b'/' => slash_piece(alloc, place, bytes),
             b'#' => directive_piece(alloc, is_fresh, place, bytes),

@@ -20,7 +20,11 @@ mod paths;
 #[cfg(test)]
 mod report;
 #[cfg(test)]
+mod seeds;
+#[cfg(test)]
 mod top;
+#[cfg(test)]
+mod transcripts;
 #[cfg(test)]
 mod user;
 #[cfg(test)]

@@ -177,9 +177,10 @@ const REFUSED: &[(&str, &str)] = &[
     ),
 ];
 
-/// While nothing is open an upcall is awaited. Else what is refused as one isn't awaited.
-fn refusal_while(is_open: bool, refusal: &str) -> &str {
-    if is_open && refusal == "0000000800000003" {
+/// While a service's answer is awaited no upcall is. Else one is: nothing is open, or a downcall, in which the kernel half
+/// may call back.
+fn refusal_while(is_asked: bool, refusal: &str) -> &str {
+    if is_asked && refusal == "0000000800000003" {
         "0000000800000002"
     } else {
         refusal
@@ -190,20 +191,18 @@ fn expect_refused(
     rt: &impl Abort,
     alloc: Global,
     half: &mut UserHalf,
-    is_open: bool,
+    is_asked: bool,
 ) -> Result<(), Fail> {
     for (sent, refusal) in REFUSED {
-        expect_reply(rt, alloc, half, sent, refusal_while(is_open, refusal))?;
+        expect_reply(rt, alloc, half, sent, refusal_while(is_asked, refusal))?;
     }
     Ok(())
 }
 
 fn expect_run_between(rt: &impl Abort, alloc: Global, half: &mut UserHalf) -> Result<(), Fail> {
-    let mut is_open = false;
     for (sent, reply) in BUMP_RUN {
-        expect_refused(rt, alloc, half, is_open)?;
+        expect_refused(rt, alloc, half, *sent == ANSWER)?;
         expect_reply(rt, alloc, half, sent, reply)?;
-        is_open = true;
     }
     expect_reply(rt, alloc, half, ANSWER, "0000000800000002")
 }
@@ -214,6 +213,29 @@ fn a_refusal_changes_nothing(rt: HostRuntime) -> Result<(), Fail> {
     let told = expect_run_between(&rt, rt.alloc(), &mut half);
     drop(half);
     told
+}
+
+/// While a downcall of depth 1 is awaited: an upcall of its own depth, and a deeper one.
+const BUMP_WITHIN: &[(&str, &str)] = &[
+    (CALL, DOWN),
+    (
+        "00000001000000010000000100000000000f4240000000000000000000000000000000010000000000000000000000000000000100000000",
+        "0000000800000003",
+    ),
+    (
+        "00000001000000010000000200000000000f4240000000000000000000000000000000010000000000000000000000000000000100000000",
+        "000000030000000000000001000000010000000100000003000000000000000000000000",
+    ),
+    // the inner downcall is back, and the inner function writes a register
+    (
+        "0000000400000000000f423e0000000c0000000000000000000000010000000000000000000000000000000100000001000000000000000000000000000000010000000200000001",
+        "0000000500000000000000010000000100000002000000050000000200000002000000010000000200000004000000000000000000000000",
+    ),
+];
+
+#[test]
+fn an_upcall_comes_in_a_downcall_where_it_is_deeper(rt: HostRuntime) -> Result<(), Fail> {
+    expect_from_a_new_half(&rt, rt.alloc(), BUMP_WITHIN)
 }
 
 /// The last message gets the reply that it gets as the first.

@@ -20,18 +20,18 @@ use Rattle.mdr_syntax.specs.declared.tree.Node.{Node}
 use Rattle.mdr_print.specs.Items.{tree_marks, printed}
 use Rattle.mdr_print.specs.Spelled.{spelled}
 use Rattle.mdr_print.proofs.Reading.{reads_tree}
-use Rattle.mdr_reread.proofs.ItemsApart.{trees_apart}
+use Rattle.mdr_roundtrip.proofs.ItemsApart.{trees_apart}
 use Rattle.mdr_grammar.specs.Grammar.{Reads}
 use Rattle.mdr_roundtrip.specs.Again.{IsPrintedAsSource}
 use Rattle.mdr_roundtrip.proofs.Lexemes.{tokens_are_lexed}
 use Rattle.mdr_roundtrip.proofs.PlacedSources.{shape_again}
 use Rattle.mdr_roundtrip.proofs.Printing.{trees_are_printable}
 use Rattle.mdr_roundtrip.proofs.ShapingSources.{sources_are_shaped}
-use Rattle.mdr_reread.specs.Printable.{all}
-use Rattle.mdr_reread.specs.Declared.{maybe}
-use Rattle.mdr_reread.specs.Stated.{is_printable_node}
-use Rattle.mdr_reread.specs.Whole.{is_printable_head, is_printable_item, is_printable_line}
-use Rattle.mdr_reread.proofs.Tests.{both}
+use Rattle.mdr_roundtrip.specs.Printable.{all}
+use Rattle.mdr_roundtrip.specs.PrintableDeclarations.{maybe}
+use Rattle.mdr_roundtrip.specs.PrintableStatements.{is_printable_node}
+use Rattle.mdr_roundtrip.specs.Whole.{is_printable_head, is_printable_item, is_printable_line}
+use Rattle.mdr_roundtrip.proofs.Tests.{both}
 use Rattle.mdr_grammar.specs.Statements.{are_named}
 use Rattle.mdr_half.specs.Halves.{half_tree, half_of, is_same_half, body_or_remote, what_in, item_in}
 use Rattle.mdr_roundtrip.specs.Shaped.{is_name, is_named_base, are_stars}

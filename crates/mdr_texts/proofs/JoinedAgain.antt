@@ -14,7 +14,7 @@ use Rattle.mdr_syntax.specs.declared.tree.Tree.{Tree}
 use Rattle.mdr_syntax.specs.Places.{first_place}
 use Rattle.mdr_syntax.specs.Tokens.{tokens_of}
 use Rattle.mdr_print.specs.Items.{printed}
-use Rattle.mdr_reread.proofs.Tests.{both}
+use Rattle.mdr_roundtrip.proofs.Tests.{both}
 use Rattle.mdr_grammar.specs.Grammar.{Reads}
 use Rattle.mdr_grammar.proofs.Exact.{one_tree}
 use Rattle.mdr_roundtrip.specs.Again.{IsPrintedAsSource}

@@ -5,7 +5,7 @@ use Rattle.mdr_plain.specs.Outcome.{outcome_of}
 use Rattle.mdr_plain.specs.Scripts.{Finish}
 use Rattle.mdr_rich_sources.proofs.Sourced.{sources_written}
 use Rattle.mdr_source.proofs.Whose.{come_source}
-use Rattle.mdr_split_runner.specs.Reports.{Reported}
+use Rattle.mdr_top.specs.Reports.{Reported}
 use Rattle.mdr_top.specs.Done.{Does}
 use Rattle.mdr_top.specs.Headline.{MeansBy, MeansWhereHonest}
 use Rattle.mdr_top.specs.Outside.{Outside}

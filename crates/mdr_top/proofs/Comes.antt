@@ -3,9 +3,9 @@ use Rattle.std.proofs.Common.{◌≡◌, ℕ, List, Option, Some, None, refl, sy
 use Rattle.mdr_due.specs.declared.status.Status.{Status}
 use Rattle.mdr_due.specs.declared.status.Status.TheVariants as status
 use Rattle.mdr_due.specs.Reads.{Files, longest_source, longest_script}
-use Rattle.mdr_generated.proofs.Steps.{told_status}
-use Rattle.mdr_generated.specs.declared.recipe.Recipe.{Recipe}
-use Rattle.mdr_generated.specs.Generated.{budget}
+use Rattle.mdr_top.proofs.SeedSteps.{told_status}
+use Rattle.mdr_top.specs.declared.recipe.Recipe.{Recipe}
+use Rattle.mdr_top.specs.Generated.{budget}
 use Rattle.mdr_model.specs.declared.outcome.End.{End}
 use Rattle.mdr_model.specs.declared.outcome.End.TheVariants as ends
 use Rattle.mdr_model.specs.Law.{IsOwn}
@@ -13,27 +13,27 @@ use Rattle.mdr_outside.specs.declared.far.Exchange.{Exchange}
 use Rattle.mdr_outside.specs.declared.far.Loaded.{Loaded}
 use Rattle.mdr_outside.specs.declared.shelf.ReadAnswer.TheVariants as reads
 use Rattle.mdr_outside.specs.Shelf.{ReadsFrom}
-use Rattle.mdr_runner.specs.declared.manner.Manner.{Manner}
-use Rattle.mdr_runner.specs.Runs.{status_of}
-use Rattle.mdr_runner.specs.Scripts.{HasScript}
-use Rattle.mdr_runner.proofs.Stages.{outcome_own}
+use Rattle.mdr_top.specs.declared.manner.Manner.{Manner}
+use Rattle.mdr_top.specs.WholeRuns.{status_of}
+use Rattle.mdr_top.specs.Scripts.{HasScript}
+use Rattle.mdr_top.proofs.Stages.{outcome_own}
 use Rattle.mdr_bound.specs.declared.bound.Bound.{Bound}
 use Rattle.mdr_source.specs.declared.outcome.Source.{Source}
-use Rattle.mdr_split_runner.specs.declared.manner.SplitManner.{SplitManner}
-use Rattle.mdr_split_runner.specs.Cuts.{IsCutInto}
-use Rattle.mdr_split_runner.specs.Ends.{EndsWith, FailedLast}
-use Rattle.mdr_split_runner.proofs.Endings.{fails_last, outcome_ends, split_runs_end}
+use Rattle.mdr_top.specs.declared.split_manner.SplitManner.{SplitManner}
+use Rattle.mdr_top.specs.CutInto.{IsCutInto}
+use Rattle.mdr_top.specs.Ends.{EndsWith, FailedLast}
+use Rattle.mdr_top.proofs.Endings.{fails_last, outcome_ends, split_runs_end}
 use Rattle.mdr_top.specs.Answers.{Unread, Untaken, IsTaken, CutAnswered, ScriptAnswered, FileAnswered, WholeDue, SplitDue, WayDue, RunAnswered, MadeAnswered, TranscriptDue, VerifyAnswered, Answered, Prints, UntakenTexts, TextsAnswered}
-use Rattle.mdr_verifier.proofs.Said.{said_exactly}
-use Rattle.mdr_verifier.specs.Laws.{IsExactly}
-use Rattle.mdr_verifier.specs.Verifies.{longest_transcript}
+use Rattle.mdr_top.proofs.Said.{said_exactly}
+use Rattle.mdr_top.specs.TranscriptLaws.{IsExactly}
+use Rattle.mdr_top.specs.Verifies.{longest_transcript}
 use Rattle.mdr_top.specs.Comes.{AreNamed, IsRunFor, WasJudged, IsWanted, IsRunSource, IsRefused, IsNoScript, IsScriptRefused, WasCut, IsWholeEnd, IsEnd, IsDone, IsStopped, Comes, IsText, AreRefused, IsNoTextsScript}
-use Rattle.mdr_split_runner.specs.Reports.{Ran}
+use Rattle.mdr_top.specs.Reports.{Ran}
 use Rattle.mdr_cut.specs.declared.texts.Texts.{Texts}
 use Rattle.mdr_cut.proofs.Determined.{texts_are_determined}
 use Rattle.mdr_halves.proofs.Refusing.{refused_are_none}
-use Rattle.mdr_halves_runner.specs.Names.{TextNames}
-use Rattle.mdr_halves_runner.specs.Reads.{longest_text}
+use Rattle.mdr_top.specs.Names.{TextNames}
+use Rattle.mdr_top.specs.Reads.{longest_text}
 use Rattle.mdr_top.specs.Cuts.{IsSplit, IsCut}
 use Rattle.mdr_top.specs.declared.words.Cutting.{Cutting}
 use Rattle.mdr_top.specs.declared.words.Cutting.TheVariants as cutting

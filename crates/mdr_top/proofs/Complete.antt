@@ -5,18 +5,18 @@ use Rattle.mdr_due.specs.Statuses.{ReadCause}
 use Rattle.mdr_due.specs.declared.status.Status.{Status}
 use Rattle.mdr_due.specs.declared.status.Status.TheVariants as status
 use Rattle.mdr_due.specs.Reads.{Files, longest_source, longest_script}
-use Rattle.mdr_generated.specs.declared.recipe.Recipe.{Recipe}
+use Rattle.mdr_top.specs.declared.recipe.Recipe.{Recipe}
 use Rattle.mdr_outside.specs.Count.{Rose}
-use Rattle.mdr_runner.specs.Scripts.{script_for}
-use Rattle.mdr_runner.proofs.Stages.{outcome_own}
+use Rattle.mdr_top.specs.Scripts.{script_for}
+use Rattle.mdr_top.proofs.Stages.{outcome_own}
 use Rattle.mdr_bound.specs.declared.bound.Bound.{Bound}
 use Rattle.mdr_script.specs.declared.script_error.ScriptKind.{ScriptKind}
 use Rattle.mdr_source.specs.declared.outcome.Source.{Source}
 use Rattle.mdr_source.specs.declared.refusal.Refusal.{Refusal}
 use Rattle.mdr_source.specs.Sources.{Comes}
 use Rattle.mdr_source.proofs.OneThing.{one_thing}
-use Rattle.mdr_split_runner.specs.declared.manner.SplitManner.{SplitManner}
-use Rattle.mdr_split_runner.specs.Means.{while_watched}
+use Rattle.mdr_top.specs.declared.split_manner.SplitManner.{SplitManner}
+use Rattle.mdr_top.specs.Means.{while_watched}
 use Rattle.mdr_top.specs.Comes.{IsUntakenDue, IsBoundDue, IsSizedDue, IsScriptDue, IsRunDue, IsFileDue, IsMadeDue, IsDueFor, IsDueOrFault, IsExact, MadeExactly}
 use Rattle.mdr_top.specs.Cuts.{WroteCause, WriteCause}
 use Rattle.mdr_top.specs.Accepted.{AreAccepted, over_two_halves}

@@ -2,7 +2,7 @@
 use Rattle.std.proofs.Common.{◌≡◌, ℕ, suc, List, ◌∷◌, Option, Some, None, Result, Ok, Err, slice_get, codes, refl, sym, ap, subst}
 use Rattle.std.specs.Prelude.{IfOk}
 use Rattle.mdr_core.specs.declared.memory_error.OutOfMemory.{OutOfMemory}
-use Rattle.mdr_generated.specs.declared.recipe.Recipe.{Recipe}
+use Rattle.mdr_top.specs.declared.recipe.Recipe.{Recipe}
 use Rattle.mdr_outside.specs.Calls.{ShelfCall}
 use Rattle.mdr_due.specs.declared.due.Due.{Due}
 use Rattle.mdr_outside.specs.Shelf.{ReadsFrom}
@@ -14,8 +14,8 @@ use Rattle.mdr_slicer.specs.Outputs.{NamedBytes, outputs, length_lines}
 use Rattle.mdr_slicer.specs.Writes.{Writes}
 use Rattle.mdr_slicer.specs.Slicing.{NoSourceOf, Splits, Reports}
 use Rattle.mdr_source.specs.declared.outcome.Source.{Source}
-use Rattle.mdr_runner.specs.declared.manner.Manner.{Manner}
-use Rattle.mdr_split_runner.specs.declared.manner.SplitManner.{SplitManner}
+use Rattle.mdr_top.specs.declared.manner.Manner.{Manner}
+use Rattle.mdr_top.specs.declared.split_manner.SplitManner.{SplitManner}
 use Rattle.mdr_top.specs.declared.words.Cutting.{Cutting}
 use Rattle.mdr_top.specs.declared.words.Cutting.TheVariants as cutting
 use Rattle.mdr_top.specs.declared.words.Way.{Way}

@@ -7,10 +7,10 @@ use Rattle.mdr_due.specs.Reads.{longest_source, longest_script}
 use Rattle.mdr_exchanges.specs.Meanings.{IsMeant}
 use Rattle.mdr_exchanges.specs.Runs.{IsFarFault}
 use Rattle.mdr_gen.specs.Generator.{driver_text, lines_from}
-use Rattle.mdr_generated.proofs.Steps.{told_status}
-use Rattle.mdr_generated.specs.declared.recipe.Recipe.{Recipe}
-use Rattle.mdr_generated.specs.Generated.{budget, IsTold}
-use Rattle.mdr_generated.specs.Generates.{IsGenerated}
+use Rattle.mdr_top.proofs.SeedSteps.{told_status}
+use Rattle.mdr_top.specs.declared.recipe.Recipe.{Recipe}
+use Rattle.mdr_top.specs.Generated.{budget, IsTold}
+use Rattle.mdr_top.specs.Generates.{IsGenerated}
 use Rattle.mdr_honest.specs.Honest.{IsHonest}
 use Rattle.mdr_model.specs.declared.outcome.End.{End}
 use Rattle.mdr_model.specs.declared.outcome.End.TheVariants as ends
@@ -19,15 +19,15 @@ use Rattle.mdr_outside.specs.declared.shelf.ReadAnswer.TheVariants as reads
 use Rattle.mdr_outside.specs.Sides.{FarSide, SinkSide}
 use Rattle.mdr_plain.specs.declared.outcome.Outcome.{Outcome}
 use Rattle.mdr_watched.specs.Watched.{watched}
-use Rattle.mdr_runner.specs.declared.manner.Manner.{Manner}
-use Rattle.mdr_runner.specs.Scripts.{NoScriptOf}
-use Rattle.mdr_runner.specs.Runs.{RunsOver, Runs, status_of}
+use Rattle.mdr_top.specs.declared.manner.Manner.{Manner}
+use Rattle.mdr_top.specs.Scripts.{NoScriptOf}
+use Rattle.mdr_top.specs.WholeRuns.{RunsOver, Runs, status_of}
 use Rattle.mdr_slicer.specs.Slicing.{NoSourceOf}
-use Rattle.mdr_split_runner.specs.declared.manner.SplitManner.{SplitManner}
-use Rattle.mdr_split_runner.specs.Means.{SplitMeans, SplitMeansBy}
-use Rattle.mdr_split_runner.specs.SplitRuns.{SplitRuns}
-use Rattle.mdr_split_runner.proofs.Honest.{outcome_means, runs_mean}
-use Rattle.mdr_split_runner.proofs.Meanings.{own_never}
+use Rattle.mdr_top.specs.declared.split_manner.SplitManner.{SplitManner}
+use Rattle.mdr_top.specs.Means.{SplitMeans, SplitMeansBy}
+use Rattle.mdr_top.specs.SplitRuns.{SplitRuns}
+use Rattle.mdr_top.proofs.SplitHonest.{outcome_means, runs_mean}
+use Rattle.mdr_top.proofs.Meanings.{own_never}
 use Rattle.mdr_top.specs.Answers.{WayDue, RunAnswered, MadeAnswered, Answered, Prints}
 use Rattle.mdr_top.specs.Cuts.{IsOfCut}
 use Rattle.mdr_top.specs.Done.{RunDone, Done, DonePart, Does}
@@ -36,13 +36,13 @@ use Rattle.mdr_top.specs.Made.{MadeMeansBy}
 use Rattle.mdr_top.specs.declared.words.Cutting.{Cutting}
 use Rattle.mdr_top.specs.declared.words.Way.{Way}
 use Rattle.mdr_top.specs.declared.words.Way.TheVariants as way
-use Rattle.mdr_split_runner.specs.Sides.{Sides}
+use Rattle.mdr_top.specs.Sides.{Sides}
 use Rattle.mdr_top.specs.Outside.{Outside}
 use Rattle.mdr_top.specs.Wholes.{WholeMeansBy, IsOfWhole}
 use Rattle.mdr_top.specs.Words.{Inputs, OfFiles, Task, Cut, Run, Generate, Verify, command_of, RunTexts, texts_manner}
-use Rattle.mdr_halves_runner.specs.Names.{TextNames}
-use Rattle.mdr_halves_runner.specs.Runs.{HalvesRuns}
-use Rattle.mdr_halves_runner.proofs.Honest.{halves_mean}
+use Rattle.mdr_top.specs.Names.{TextNames}
+use Rattle.mdr_top.specs.HalvesRuns.{HalvesRuns}
+use Rattle.mdr_top.proofs.HalvesHonest.{halves_mean}
 use Rattle.mdr_top.specs.Texts.{TextsMeanBy, TextsMean}
 use Rattle.mdr_top.specs.Writing.{IsWritten, IsCutOff, TellsFailure}
 use Rattle.mdr_top.proofs.CutLaws.{cut_no_run, no_made, no_verify, whole_no_split, unread_so, cut_so, cut_status}
@@ -50,7 +50,7 @@ use Rattle.mdr_top.proofs.Headline.{IsEarly, early_sourceless, not_early}
 use Rattle.mdr_top.proofs.Pieces.{offers_last, offers_whole}
 use Rattle.mdr_top.proofs.SplitLaws.{split_so}
 use Rattle.mdr_top.proofs.Statuses.{unread_status}
-use Rattle.mdr_verifier.specs.Verifies.{Verifies}
+use Rattle.mdr_top.specs.Verifies.{Verifies}
 use Rattle.mdr_top.proofs.VerifyLaws.{verified_so, verified_unrefused}
 use Rattle.mdr_top.proofs.TextsLaws.{texts_so, texts_no_run, texts_mean_by}
 use Rattle.mdr_top.proofs.WholeLaws.{whole_so, whole_status}

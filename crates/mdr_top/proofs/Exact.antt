@@ -7,16 +7,16 @@ use Rattle.mdr_due.specs.Statuses.{ReadCause}
 use Rattle.mdr_due.specs.declared.status.Status.{Status}
 use Rattle.mdr_due.specs.declared.status.Status.TheVariants as status
 use Rattle.mdr_due.specs.Reads.{Files, longest_source, longest_script}
-use Rattle.mdr_generated.proofs.Steps.{told_status}
-use Rattle.mdr_generated.specs.declared.recipe.Recipe.{Recipe}
+use Rattle.mdr_top.proofs.SeedSteps.{told_status}
+use Rattle.mdr_top.specs.declared.recipe.Recipe.{Recipe}
 use Rattle.mdr_outside.specs.Count.{Rose}
 use Rattle.mdr_outside.specs.declared.far.Exchange.{Exchange}
 use Rattle.mdr_outside.specs.declared.far.Loaded.{Loaded}
 use Rattle.mdr_outside.specs.declared.shelf.ReadAnswer.TheVariants as reads
 use Rattle.mdr_outside.specs.Shelf.{ReadsFrom}
-use Rattle.mdr_runner.specs.declared.manner.Manner.{Manner}
-use Rattle.mdr_runner.specs.Runs.{EndsWith}
-use Rattle.mdr_runner.specs.Scripts.{script_for}
+use Rattle.mdr_top.specs.declared.manner.Manner.{Manner}
+use Rattle.mdr_top.specs.WholeRuns.{EndsWith}
+use Rattle.mdr_top.specs.Scripts.{script_for}
 use Rattle.mdr_bound.specs.declared.bound.Bound.{Bound}
 use Rattle.mdr_script.specs.declared.script_error.ScriptKind.{ScriptKind}
 use Rattle.mdr_source.specs.declared.outcome.Source.{Source}
@@ -31,13 +31,13 @@ use Rattle.mdr_top.specs.Headline.{Rests, RestsHere}
 use Rattle.mdr_top.specs.Outside.{Outside}
 use Rattle.mdr_top.specs.Splits.{IsOfRun}
 use Rattle.mdr_top.specs.Words.{Inputs, OfFiles, Task, Cut, Run, Generate, command_of, texts_manner}
-use Rattle.mdr_verifier.proofs.Said.{said_exactly}
-use Rattle.mdr_verifier.specs.Verifies.{longest_transcript}
+use Rattle.mdr_top.proofs.Said.{said_exactly}
+use Rattle.mdr_top.specs.Verifies.{longest_transcript}
 use Rattle.mdr_top.proofs.SplitLaws.{end_status, run_status}
 use Rattle.mdr_cut.specs.declared.texts.Texts.{Texts}
 use Rattle.mdr_halves.proofs.Refusing.{refused_are_none}
-use Rattle.mdr_halves_runner.specs.Names.{TextNames}
-use Rattle.mdr_halves_runner.specs.Reads.{longest_text}
+use Rattle.mdr_top.specs.Names.{TextNames}
+use Rattle.mdr_top.specs.Reads.{longest_text}
 
 -- what a seed gives
 made_due : (loaded : Option Loaded) (es : List Exchange) (s : Status) (text : List ℕ) (recipe : Recipe) → MadeAnswered recipe loaded es s text → IsMadeDue recipe s

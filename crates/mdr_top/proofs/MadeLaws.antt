@@ -4,13 +4,13 @@ use Rattle.mdr_due.specs.declared.status.Status.{Status}
 use Rattle.mdr_due.specs.declared.status.Status.TheVariants as status
 use Rattle.mdr_due.specs.Statuses.{Counts, HasReadCause}
 use Rattle.mdr_gen.specs.Generator.{driver_text, lines_from}
-use Rattle.mdr_generated.proofs.Steps.{generated_holds}
-use Rattle.mdr_generated.specs.declared.recipe.Recipe.{Recipe}
-use Rattle.mdr_generated.specs.Generates.{IsGenerated}
+use Rattle.mdr_top.proofs.SeedSteps.{generated_holds}
+use Rattle.mdr_top.specs.declared.recipe.Recipe.{Recipe}
+use Rattle.mdr_top.specs.Generates.{IsGenerated}
 use Rattle.mdr_model.specs.declared.outcome.End.{End}
 use Rattle.mdr_model.specs.declared.outcome.End.TheVariants as ends
 use Rattle.mdr_outside.specs.Sides.{FarSide}
-use Rattle.mdr_runner.specs.Runs.{status_of}
+use Rattle.mdr_top.specs.WholeRuns.{status_of}
 
 -- none tells of a file
 pub made_reads : (recipe : Recipe) (far far' : FarSide) (s : Status) (text : List ℕ) → IsGenerated recipe far far' s text → (before after : Counts) → HasReadCause before after s

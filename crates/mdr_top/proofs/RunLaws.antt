@@ -3,12 +3,12 @@ use Rattle.std.proofs.Common.{◌≡◌, ℕ, List, Result, Ok, Err, sym, subst}
 use Rattle.std.specs.Prelude.{IfOk, OnErr}
 use Rattle.mdr_core.specs.declared.memory_error.OutOfMemory.{OutOfMemory}
 use Rattle.mdr_due.specs.declared.due.Due.{Due}
-use Rattle.mdr_runner.specs.declared.manner.Manner.{Manner}
-use Rattle.mdr_runner.specs.Runs.{Runs, RunsPart}
+use Rattle.mdr_top.specs.declared.manner.Manner.{Manner}
+use Rattle.mdr_top.specs.WholeRuns.{Runs, RunsPart}
 use Rattle.mdr_top.specs.declared.words.Way.{Way}
 use Rattle.mdr_top.specs.declared.words.Way.TheVariants as way
 use Rattle.mdr_top.specs.Done.{RunDoneBy, RunPartBy}
-use Rattle.mdr_split_runner.specs.Sides.{Change}
+use Rattle.mdr_top.specs.Sides.{Change}
 use Rattle.mdr_top.specs.Words.{OfFiles}
 
 -- a run on one memory leaves the far side alone

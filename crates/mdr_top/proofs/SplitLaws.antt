@@ -13,13 +13,13 @@ use Rattle.mdr_due.specs.declared.status.Status.{Status}
 use Rattle.mdr_due.specs.declared.status.Status.TheVariants as status
 use Rattle.mdr_due.specs.Reads.{Files, longest_script}
 use Rattle.mdr_bound.specs.declared.bound.Bound.{Bound}
-use Rattle.mdr_runner.specs.Scripts.{NoScriptOf}
-use Rattle.mdr_runner.specs.Runs.{status_of}
-use Rattle.mdr_split_runner.specs.declared.manner.SplitManner.{SplitManner}
-use Rattle.mdr_split_runner.specs.Ends.{EndsWith}
-use Rattle.mdr_split_runner.specs.Reports.{Ran}
-use Rattle.mdr_split_runner.specs.SplitRuns.{SplitRuns}
-use Rattle.mdr_split_runner.proofs.Endings.{split_runs_end}
+use Rattle.mdr_top.specs.Scripts.{NoScriptOf}
+use Rattle.mdr_top.specs.WholeRuns.{status_of}
+use Rattle.mdr_top.specs.declared.split_manner.SplitManner.{SplitManner}
+use Rattle.mdr_top.specs.Ends.{EndsWith}
+use Rattle.mdr_top.specs.Reports.{Ran}
+use Rattle.mdr_top.specs.SplitRuns.{SplitRuns}
+use Rattle.mdr_top.proofs.Endings.{split_runs_end}
 use Rattle.mdr_top.specs.Answers.{Untaken, IsTaken, ScriptAnswered, FileAnswered, SplitDue}
 use Rattle.mdr_top.specs.Splits.{IsOfRun}
 use Rattle.mdr_top.proofs.CutLaws.{unread_so, untaken_so}

@@ -12,21 +12,21 @@ use Rattle.mdr_halves.specs.Joins.{AreTextsOf}
 use Rattle.mdr_halves.specs.Laws.{AreSame}
 use Rattle.mdr_halves.proofs.Placing.{texts_moved}
 use Rattle.mdr_halves.proofs.Refusing.{refused_are_none, texts_of_one}
-use Rattle.mdr_halves_runner.specs.Means.{HalvesMeanBy}
-use Rattle.mdr_halves_runner.specs.Names.{TextNames}
-use Rattle.mdr_halves_runner.specs.Reads.{AreRead, NoTexts, longest_text}
-use Rattle.mdr_halves_runner.specs.Runs.{HalvesRuns}
-use Rattle.mdr_halves_runner.specs.Sources.{IsSourceIn, NoSourceIn}
+use Rattle.mdr_top.specs.HalvesMeans.{HalvesMeanBy}
+use Rattle.mdr_top.specs.Names.{TextNames}
+use Rattle.mdr_top.specs.Reads.{AreRead, NoTexts, longest_text}
+use Rattle.mdr_top.specs.HalvesRuns.{HalvesRuns}
+use Rattle.mdr_top.specs.Sources.{IsSourceIn, NoSourceIn}
 use Rattle.mdr_outside.specs.Calls.{ShelfCall, Read, and_then}
 use Rattle.mdr_outside.specs.declared.far.Exchange.{Exchange}
 use Rattle.mdr_outside.specs.declared.far.Loaded.{Loaded}
 use Rattle.mdr_outside.specs.declared.shelf.ReadAnswer.TheVariants as reads
 use Rattle.mdr_outside.specs.Shelf.{ReadsFrom}
 use Rattle.mdr_outside.specs.Sides.{FarSide}
-use Rattle.mdr_runner.specs.Scripts.{NoScript, NoScriptOf, HasScript}
+use Rattle.mdr_top.specs.Scripts.{NoScript, NoScriptOf, HasScript}
 use Rattle.mdr_source.specs.declared.outcome.Source.{Source}
-use Rattle.mdr_split_runner.specs.Reports.{Ran}
-use Rattle.mdr_split_runner.specs.SplitRuns.{SplitRunsOver}
+use Rattle.mdr_top.specs.Reports.{Ran}
+use Rattle.mdr_top.specs.SplitRuns.{SplitRunsOver}
 use Rattle.mdr_top.specs.Answers.{Unread, HoldTexts, IsTaken, AreTaken, Untaken, UntakenTexts, ScriptAnswered, SplitDue, TextsAnswered, Answered, Prints}
 use Rattle.mdr_top.specs.declared.words.Way.{Way}
 use Rattle.mdr_top.specs.declared.words.Way.TheVariants as way

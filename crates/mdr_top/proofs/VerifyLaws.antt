@@ -4,11 +4,11 @@ use Rattle.mdr_due.specs.declared.status.Status.{Status}
 use Rattle.mdr_due.specs.declared.status.Status.TheVariants as status
 use Rattle.mdr_due.specs.Reads.{Files, longest_script}
 use Rattle.mdr_outside.specs.Calls.{ShelfCall}
-use Rattle.mdr_runner.specs.Scripts.{NoScriptOf}
+use Rattle.mdr_top.specs.Scripts.{NoScriptOf}
 use Rattle.mdr_bound.specs.declared.bound.Bound.{Bound}
 use Rattle.mdr_source.specs.declared.outcome.Source.{Source}
-use Rattle.mdr_verifier.proofs.Stages.{said_holds}
-use Rattle.mdr_verifier.specs.Verifies.{Verifies, VerifiesOver, VerifiesRun, longest_transcript}
+use Rattle.mdr_top.proofs.TranscriptStages.{said_holds}
+use Rattle.mdr_top.specs.Verifies.{Verifies, VerifiesOver, VerifiesRun, longest_transcript}
 use Rattle.mdr_top.specs.Answers.{Untaken, IsTaken, ScriptAnswered, TranscriptDue, VerifyAnswered}
 use Rattle.mdr_top.proofs.CutLaws.{unread_so, untaken_so}
 use Rattle.mdr_top.proofs.Statuses.{HoldsSourceless, answered_status, unread_status, untaken_status}

@@ -7,10 +7,10 @@ use Rattle.mdr_outside.specs.Calls.{ShelfCall}
 use Rattle.mdr_due.specs.declared.status.Status.{Status}
 use Rattle.mdr_due.specs.declared.status.Status.TheVariants as status
 use Rattle.mdr_due.specs.Reads.{Files, longest_script}
-use Rattle.mdr_runner.specs.declared.manner.Manner.{Manner}
-use Rattle.mdr_runner.specs.Scripts.{NoScriptOf}
-use Rattle.mdr_runner.specs.Runs.{status_of, RunsOver, Runs}
-use Rattle.mdr_runner.proofs.Stages.{outcome_own}
+use Rattle.mdr_top.specs.declared.manner.Manner.{Manner}
+use Rattle.mdr_top.specs.Scripts.{NoScriptOf}
+use Rattle.mdr_top.specs.WholeRuns.{status_of, RunsOver, Runs}
+use Rattle.mdr_top.proofs.Stages.{outcome_own}
 use Rattle.mdr_top.specs.Answers.{Untaken, IsTaken, ScriptAnswered, FileAnswered, WholeDue}
 use Rattle.mdr_top.specs.Wholes.{IsOfWhole}
 use Rattle.mdr_top.proofs.CutLaws.{unread_so, untaken_so}

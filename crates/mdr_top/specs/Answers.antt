@@ -8,28 +8,28 @@ use Rattle.mdr_due.specs.declared.status.Status.TheVariants as status
 use Rattle.mdr_due.specs.Lines.{file_line}
 use Rattle.mdr_due.specs.Reads.{Files, longest_source, longest_script}
 use Rattle.mdr_gen.specs.Generator.{driver_text, lines_from}
-use Rattle.mdr_generated.specs.declared.recipe.Recipe.{Recipe}
-use Rattle.mdr_generated.specs.Generated.{budget, IsTold}
-use Rattle.mdr_halves_runner.specs.Names.{TextNames}
-use Rattle.mdr_halves_runner.specs.Reads.{longest_text}
-use Rattle.mdr_halves_runner.specs.Sources.{HasHalves, NoHalves}
+use Rattle.mdr_top.specs.declared.recipe.Recipe.{Recipe}
+use Rattle.mdr_top.specs.Generated.{budget, IsTold}
+use Rattle.mdr_top.specs.Names.{TextNames}
+use Rattle.mdr_top.specs.Reads.{longest_text}
+use Rattle.mdr_top.specs.Sources.{HasHalves, NoHalves}
 use Rattle.mdr_outside.specs.declared.far.Exchange.{Exchange}
 use Rattle.mdr_outside.specs.declared.far.Loaded.{Loaded}
 use Rattle.mdr_outside.specs.declared.shelf.ReadAnswer.TheVariants as reads
 use Rattle.mdr_outside.specs.Shelf.{ReadsFrom}
 use Rattle.mdr_plain.specs.declared.outcome.Outcome.{Outcome}
-use Rattle.mdr_runner.specs.declared.manner.Manner.{Manner}
-use Rattle.mdr_runner.specs.Runs.{IsRun}
-use Rattle.mdr_runner.specs.Scripts.{HasScript, NoScript}
+use Rattle.mdr_top.specs.declared.manner.Manner.{Manner}
+use Rattle.mdr_top.specs.WholeRuns.{IsRun}
+use Rattle.mdr_top.specs.Scripts.{HasScript, NoScript}
 use Rattle.mdr_bound.specs.declared.bound.Bound.{Bound}
 use Rattle.mdr_slicer.specs.Slicing.{HasSource, NoSource}
 use Rattle.mdr_source.specs.declared.outcome.Source.{Source}
-use Rattle.mdr_split_runner.specs.Cuts.{IsCutInto}
-use Rattle.mdr_split_runner.specs.declared.manner.SplitManner.{SplitManner}
-use Rattle.mdr_split_runner.specs.Layouts.{with_lines}
-use Rattle.mdr_split_runner.specs.Reports.{Ran, RanTo, world_left}
-use Rattle.mdr_verifier.specs.Judged.{IsJudged}
-use Rattle.mdr_verifier.specs.Verifies.{longest_transcript}
+use Rattle.mdr_top.specs.CutInto.{IsCutInto}
+use Rattle.mdr_top.specs.declared.split_manner.SplitManner.{SplitManner}
+use Rattle.mdr_top.specs.Layouts.{with_lines}
+use Rattle.mdr_top.specs.Reports.{Ran, RanTo, world_left}
+use Rattle.mdr_top.specs.Judged.{IsJudged}
+use Rattle.mdr_top.specs.Verifies.{longest_transcript}
 use Rattle.mdr_top.specs.declared.words.Cutting.{Cutting}
 use Rattle.mdr_top.specs.declared.words.Way.{Way}
 use Rattle.mdr_top.specs.declared.words.Way.TheVariants as way

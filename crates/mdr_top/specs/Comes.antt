@@ -9,33 +9,33 @@ use Rattle.mdr_due.specs.declared.status.Status.{Status}
 use Rattle.mdr_due.specs.declared.status.Status.TheVariants as status
 use Rattle.mdr_due.specs.Reads.{Files, longest_source, longest_script}
 use Rattle.mdr_gen.specs.Generator.{driver_text, lines_from}
-use Rattle.mdr_generated.specs.declared.recipe.Recipe.{Recipe}
-use Rattle.mdr_generated.specs.Generated.{budget}
+use Rattle.mdr_top.specs.declared.recipe.Recipe.{Recipe}
+use Rattle.mdr_top.specs.Generated.{budget}
 use Rattle.mdr_outside.specs.declared.far.Exchange.{Exchange}
 use Rattle.mdr_outside.specs.declared.far.Loaded.{Loaded}
 use Rattle.mdr_outside.specs.declared.shelf.ReadAnswer.{ReadAnswer}
 use Rattle.mdr_outside.specs.declared.shelf.ReadAnswer.TheVariants as reads
 use Rattle.mdr_outside.specs.Shelf.{ReadsFrom}
-use Rattle.mdr_runner.specs.declared.manner.Manner.{Manner}
-use Rattle.mdr_runner.specs.Runs.{EndsWith}
-use Rattle.mdr_runner.specs.Scripts.{HasScript, script_for}
+use Rattle.mdr_top.specs.declared.manner.Manner.{Manner}
+use Rattle.mdr_top.specs.WholeRuns.{EndsWith}
+use Rattle.mdr_top.specs.Scripts.{HasScript, script_for}
 use Rattle.mdr_bound.specs.declared.bound.Bound.{Bound}
 use Rattle.mdr_script.specs.declared.script_error.ScriptKind.{ScriptKind}
 use Rattle.mdr_slicer.specs.Slicing.{HasSource}
 use Rattle.mdr_halves.specs.declared.mismatch.Mismatch.{Mismatch}
 use Rattle.mdr_halves.specs.Joins.{AreTextsOf}
 use Rattle.mdr_halves.specs.Whole.{Come}
-use Rattle.mdr_halves_runner.specs.Names.{TextNames}
-use Rattle.mdr_halves_runner.specs.Reads.{longest_text}
+use Rattle.mdr_top.specs.Names.{TextNames}
+use Rattle.mdr_top.specs.Reads.{longest_text}
 use Rattle.mdr_source.specs.declared.outcome.Source.{Source}
 use Rattle.mdr_source.specs.declared.refusal.Refusal.{Refusal}
 use Rattle.mdr_source.specs.Sources.{Comes as ComesTo}
-use Rattle.mdr_split_runner.specs.Cuts.{IsCutInto}
-use Rattle.mdr_split_runner.specs.declared.manner.SplitManner.{SplitManner}
-use Rattle.mdr_split_runner.specs.Ends.{EndsWith as SplitEndsWith}
-use Rattle.mdr_verifier.specs.Laws.{IsExactly}
-use Rattle.mdr_verifier.specs.Runs.{IsHonestRun}
-use Rattle.mdr_verifier.specs.Verifies.{longest_transcript}
+use Rattle.mdr_top.specs.CutInto.{IsCutInto}
+use Rattle.mdr_top.specs.declared.split_manner.SplitManner.{SplitManner}
+use Rattle.mdr_top.specs.Ends.{EndsWith as SplitEndsWith}
+use Rattle.mdr_top.specs.TranscriptLaws.{IsExactly}
+use Rattle.mdr_top.specs.TranscriptRuns.{IsHonestRun}
+use Rattle.mdr_top.specs.Verifies.{longest_transcript}
 use Rattle.mdr_top.specs.Accepted.{AreAccepted, on_one_memory, over_two_halves}
 use Rattle.mdr_top.specs.Answers.{HoldTexts, AreTaken}
 use Rattle.mdr_top.specs.declared.words.Cutting.{Cutting}

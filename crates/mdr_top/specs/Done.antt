@@ -4,21 +4,21 @@ use Rattle.std.specs.Prelude.{◌≡◌, ℕ, List, Some, None}
 use Rattle.mdr_due.specs.declared.due.Due.{Due}
 use Rattle.mdr_due.specs.declared.status.Status.{Status}
 use Rattle.mdr_due.specs.declared.status.Status.TheVariants as status
-use Rattle.mdr_generated.specs.declared.recipe.Recipe.{Recipe}
-use Rattle.mdr_generated.specs.Generates.{IsGenerated, IsGeneratedPart}
-use Rattle.mdr_halves_runner.specs.Names.{TextNames}
-use Rattle.mdr_halves_runner.specs.Runs.{HalvesRuns, HalvesPart}
-use Rattle.mdr_runner.specs.declared.manner.Manner.{Manner}
-use Rattle.mdr_runner.specs.Runs.{Runs, RunsPart}
-use Rattle.mdr_split_runner.specs.declared.manner.SplitManner.{SplitManner}
-use Rattle.mdr_split_runner.specs.SplitRuns.{SplitRuns, SplitRunsPart}
-use Rattle.mdr_verifier.specs.Verifies.{Verifies, VerifiesPart}
+use Rattle.mdr_top.specs.declared.recipe.Recipe.{Recipe}
+use Rattle.mdr_top.specs.Generates.{IsGenerated, IsGeneratedPart}
+use Rattle.mdr_top.specs.Names.{TextNames}
+use Rattle.mdr_top.specs.HalvesRuns.{HalvesRuns, HalvesPart}
+use Rattle.mdr_top.specs.declared.manner.Manner.{Manner}
+use Rattle.mdr_top.specs.WholeRuns.{Runs, RunsPart}
+use Rattle.mdr_top.specs.declared.split_manner.SplitManner.{SplitManner}
+use Rattle.mdr_top.specs.SplitRuns.{SplitRuns, SplitRunsPart}
+use Rattle.mdr_top.specs.Verifies.{Verifies, VerifiesPart}
 use Rattle.mdr_top.specs.Cuts.{CutDone, CutPart}
 use Rattle.mdr_top.specs.declared.words.Cutting.{Cutting}
 use Rattle.mdr_top.specs.declared.words.Way.{Way}
 use Rattle.mdr_top.specs.declared.words.Way.TheVariants as way
 use Rattle.mdr_top.specs.Lines.{usage_line}
-use Rattle.mdr_split_runner.specs.Sides.{Sides, Change}
+use Rattle.mdr_top.specs.Sides.{Sides, Change}
 use Rattle.mdr_top.specs.Outside.{Outside}
 use Rattle.mdr_top.specs.Words.{Inputs, OfFiles, Cut, Run, Generate, Verify, command_of, RunTexts, texts_manner}
 use Rattle.mdr_top.specs.Writing.{IsWritten, IsCutOff}

@@ -15,13 +15,13 @@ use Rattle.mdr_outside.specs.Count.{Rose}
 use Rattle.mdr_outside.specs.declared.far.LoadAnswer.TheVariants as loads
 use Rattle.mdr_outside.specs.declared.shelf.ReadAnswer.TheVariants as reads
 use Rattle.mdr_outside.specs.Far.{loaded_with}
-use Rattle.mdr_runner.specs.Runs.{EndsWith, IsRun}
+use Rattle.mdr_top.specs.WholeRuns.{EndsWith, IsRun}
 use Rattle.mdr_bound.specs.declared.bound.Bound.{Bound}
 use Rattle.mdr_source.specs.declared.outcome.Source.{Source}
-use Rattle.mdr_split_runner.specs.Cuts.{IsCutInto}
-use Rattle.mdr_split_runner.specs.declared.manner.SplitManner.{SplitManner}
-use Rattle.mdr_split_runner.specs.Layouts.{with_lines}
-use Rattle.mdr_split_runner.specs.Means.{IsMeaning, while_watched}
+use Rattle.mdr_top.specs.CutInto.{IsCutInto}
+use Rattle.mdr_top.specs.declared.split_manner.SplitManner.{SplitManner}
+use Rattle.mdr_top.specs.Layouts.{with_lines}
+use Rattle.mdr_top.specs.Means.{IsMeaning, while_watched}
 use Rattle.mdr_top.specs.Accepted.{AreAccepted, over_two_halves}
 use Rattle.mdr_top.specs.declared.words.Way.TheVariants as way
 use Rattle.mdr_top.specs.Outside.{Outside}

@@ -6,15 +6,15 @@ use Rattle.mdr_cut.specs.declared.texts.Texts.{Texts}
 use Rattle.mdr_due.specs.declared.status.Status.{Status}
 use Rattle.mdr_due.specs.declared.status.Status.TheVariants as status
 use Rattle.mdr_gen.specs.Generator.{driver_text, lines_from}
-use Rattle.mdr_generated.specs.declared.recipe.Recipe.{Recipe}
-use Rattle.mdr_generated.specs.Generated.{budget, IsTold}
+use Rattle.mdr_top.specs.declared.recipe.Recipe.{Recipe}
+use Rattle.mdr_top.specs.Generated.{budget, IsTold}
 use Rattle.mdr_honest.specs.Honest.{IsHonest}
-use Rattle.mdr_runner.specs.Scripts.{HasScript}
+use Rattle.mdr_top.specs.Scripts.{HasScript}
 use Rattle.mdr_bound.specs.declared.bound.Bound.{Bound}
 use Rattle.mdr_slicer.specs.Slicing.{HasSource}
 use Rattle.mdr_source.specs.declared.outcome.Source.{Source}
-use Rattle.mdr_split_runner.specs.Cuts.{IsCutInto}
-use Rattle.mdr_split_runner.specs.Means.{meant}
+use Rattle.mdr_top.specs.CutInto.{IsCutInto}
+use Rattle.mdr_top.specs.Means.{meant}
 use Rattle.mdr_watched.specs.Watched.{watched}
 use Rattle.mdr_top.specs.Headline.{Rests}
 use Rattle.mdr_top.specs.Outside.{Outside}

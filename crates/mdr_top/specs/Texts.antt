@@ -8,20 +8,20 @@ use Rattle.mdr_cut.specs.Cuts.{AreTexts}
 use Rattle.mdr_due.specs.declared.status.Status.{Status}
 use Rattle.mdr_due.specs.declared.status.Status.TheVariants as status
 use Rattle.mdr_due.specs.Reads.{Files, longest_script, longest_source}
-use Rattle.mdr_halves_runner.specs.Names.{TextNames}
-use Rattle.mdr_halves_runner.specs.Reads.{longest_text}
+use Rattle.mdr_top.specs.Names.{TextNames}
+use Rattle.mdr_top.specs.Reads.{longest_text}
 use Rattle.mdr_honest.specs.Honest.{IsHonest}
 use Rattle.mdr_outside.specs.Calls.{ShelfCall, Read, and_then}
 use Rattle.mdr_outside.specs.declared.far.LoadAnswer.TheVariants as loads
 use Rattle.mdr_outside.specs.declared.shelf.ReadAnswer.TheVariants as reads
 use Rattle.mdr_outside.specs.Far.{loaded_with}
 use Rattle.mdr_outside.specs.Shelf.{ReadsFrom}
-use Rattle.mdr_runner.specs.Runs.{IsRun}
-use Rattle.mdr_runner.specs.Scripts.{HasScript}
+use Rattle.mdr_top.specs.WholeRuns.{IsRun}
+use Rattle.mdr_top.specs.Scripts.{HasScript}
 use Rattle.mdr_slicer.specs.Slicing.{HasSource}
 use Rattle.mdr_source.specs.declared.outcome.Source.{Source}
-use Rattle.mdr_split_runner.specs.Cuts.{IsCutInto}
-use Rattle.mdr_split_runner.specs.Means.{IsMeaning, while_watched}
+use Rattle.mdr_top.specs.CutInto.{IsCutInto}
+use Rattle.mdr_top.specs.Means.{IsMeaning, while_watched}
 use Rattle.mdr_top.specs.Answers.{HoldTexts, AreTaken, Prints}
 use Rattle.mdr_top.specs.Headline.{AreTold}
 use Rattle.mdr_top.specs.Outside.{Outside}

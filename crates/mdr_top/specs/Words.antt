@@ -1,12 +1,12 @@
 -- believed
 -- The words that the program takes.
-use Rattle.std.specs.Prelude.{ℕ, Bool, false, not, ◌&&◌, ◌||◌, List, [], ◌∷◌, codes, Option, Some, None, option_map}
+use Rattle.std.specs.Prelude.{◌≡◌, ℕ, Bool, false, not, ◌&&◌, ◌||◌, List, [], ◌∷◌, codes, Option, Some, None, option_map}
 use Rattle.std.specs.Str.{bytes_eq}
 use Rattle.mdr_core.specs.Layout.{chosen}
-use Rattle.mdr_generated.specs.declared.recipe.Recipe.{Recipe}
+use Rattle.mdr_top.specs.declared.recipe.Recipe.{Recipe}
 use Rattle.mdr_top.specs.Budgets.{when, budget_of, seed_of, size_of}
-use Rattle.mdr_halves_runner.specs.Names.{TextNames}
-use Rattle.mdr_split_runner.specs.declared.manner.SplitManner.{SplitManner}
+use Rattle.mdr_top.specs.Names.{TextNames}
+use Rattle.mdr_top.specs.declared.split_manner.SplitManner.{SplitManner}
 use Rattle.mdr_top.specs.declared.flags.Flags.{Flags}
 use Rattle.mdr_top.specs.declared.words.Cutting.{Cutting}
 use Rattle.mdr_top.specs.declared.words.Cutting.TheVariants as cutting
@@ -128,3 +128,7 @@ command_by None None other = other
 
 abbrev pub command_of : List (List ℕ) → Option Task
 command_of words = command_by (cut_of words) (run_of words) (other_by (recipe_of words) (verify_of words) (texts_command words))
+
+-- if anything is asked for, it is a run over two halves from their texts
+abbrev pub AskForTexts : List (List ℕ) → Type 0
+AskForTexts words = command_of words ≡ texts_command words

@@ -7,8 +7,8 @@ use Rattle.mdr_honest.specs.Honest.{IsHonest}
 use Rattle.mdr_plain.specs.Outcome.{outcome_of}
 use Rattle.mdr_rich_sources.specs.Bodies.{tree_bodies}
 use Rattle.mdr_rich_sources.specs.Runs.{written_run}
-use Rattle.mdr_split_runner.specs.declared.manner.SplitManner.{SplitManner}
-use Rattle.mdr_split_runner.specs.Reports.{Reported}
+use Rattle.mdr_top.specs.declared.split_manner.SplitManner.{SplitManner}
+use Rattle.mdr_top.specs.Reports.{Reported}
 use Rattle.mdr_top.specs.declared.words.Way.TheVariants as way
 use Rattle.mdr_top.specs.Headline.{MeansBy}
 use Rattle.mdr_top.specs.Outside.{Outside}

@@ -10,6 +10,7 @@ ghost use Rattle.mdr_top.specs.Done.{DoneBy, PartBy};
 
 use crate::cutting::cut;
 use crate::making::made;
+use crate::sides_seen::SidesSeen;
 use crate::texts::from_texts;
 use crate::verifying::verify;
 use crate::ways::ran;
@@ -17,7 +18,6 @@ use crate::words::{cut_of, recipe_of, run_of, verify_of};
 use mdr_core::OutOfMemory;
 use mdr_due::Due;
 use mdr_outside::{Far, Shelf, ShelfSeen};
-use mdr_split_runner::SidesSeen;
 use std::alloc::Global;
 
 /// What is due for the words.

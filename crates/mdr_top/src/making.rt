@@ -4,11 +4,12 @@ ghost use Rattle.std.specs.Prelude.{◌≡◌, ◌≢◌, IfOk, OnErr};
 ghost use Rattle.mdr_due.specs.declared.status.Status.TheVariants as status;
 ghost use Rattle.mdr_due.specs.Statuses.{Counts, HasReadCause};
 ghost use Rattle.mdr_outside.specs.Count.{Rose};
-ghost use Rattle.mdr_generated.specs.Generates.{IsGenerated, IsGeneratedPart};
+ghost use Rattle.mdr_top.specs.Generates.{IsGenerated, IsGeneratedPart};
 
+use crate::recipe::Recipe;
+use crate::seed_running::generated;
 use mdr_core::OutOfMemory;
 use mdr_due::Due;
-use mdr_generated::{Recipe, generated};
 use mdr_outside::{Far, FarSeen};
 use std::alloc::Global;
 

@@ -4,12 +4,14 @@ ghost use Rattle.std.specs.Prelude.{◌≡◌, ◌≢◌, IfOk, OnErr};
 ghost use Rattle.mdr_due.specs.Statuses.{ReadCause};
 ghost use Rattle.mdr_due.specs.declared.status.Status.TheVariants as status;
 ghost use Rattle.mdr_outside.specs.Count.{Rose};
-ghost use Rattle.mdr_split_runner.specs.Gives.{SplitPartBy, SplitRunsBy};
+ghost use Rattle.mdr_top.specs.Gives.{SplitPartBy, SplitRunsBy};
 
+use crate::sides_seen::SidesSeen;
+use crate::split_manner::SplitManner;
+use crate::split_running::split_over;
 use mdr_core::OutOfMemory;
 use mdr_due::Due;
 use mdr_outside::{Far, Shelf, ShelfSeen};
-use mdr_split_runner::{SidesSeen, SplitManner, split_over};
 use std::alloc::Global;
 
 /// Runs a script over the two halves of a source, both from the shelf, in the manner that is asked for: the user half runs

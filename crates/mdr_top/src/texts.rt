@@ -3,18 +3,20 @@
 ghost use Rattle.std.specs.Prelude.{◌≡◌, ◌≢◌, IfOk, OnErr, map, option_map, string_bytes};
 ghost use Rattle.mdr_due.specs.Statuses.{ReadCause};
 ghost use Rattle.mdr_due.specs.declared.status.Status.TheVariants as status;
-ghost use Rattle.mdr_halves_runner.specs.Names.{names_in};
+ghost use Rattle.mdr_top.specs.Names.{names_in};
 ghost use Rattle.mdr_outside.specs.Count.{Rose};
 ghost use Rattle.mdr_top.specs.Done.{DoneBy, PartBy};
-ghost use Rattle.mdr_top.specs.Words.{command_of, is_halves, texts_command, texts_of};
+ghost use Rattle.mdr_top.specs.Words.{AskForTexts, is_halves, texts_of};
 
+use crate::files::TextFiles;
+use crate::halves_running::halves_over;
 use crate::lines::usage_line;
+use crate::sides_seen::SidesSeen;
+use crate::split_manner::SplitManner;
 use crate::words::TICKS;
 use mdr_core::OutOfMemory;
 use mdr_due::{Due, Status};
-use mdr_halves_runner::{TextFiles, halves_over};
 use mdr_outside::{Far, Shelf, ShelfSeen};
-use mdr_split_runner::{SidesSeen, SplitManner};
 use std::alloc::Global;
 
 fn is_halves(run: &str, mode: &str) -> bool
@@ -49,8 +51,8 @@ pub(crate) fn from_texts<S: Shelf, F: Far>(
     shelf: &mut S,
     far: &mut F,
 ) -> Result<Due, OutOfMemory>
-    ensures done { command_of (map string_bytes words.now) ≡ texts_command (map string_bytes words.now) → IfOk result (DoneBy (map string_bytes words.now) (⟦<(S, F) as SidesSeen>⟧.change (shelf.old, far.old) (shelf.new, far.new))) }
-    ensures part { command_of (map string_bytes words.now) ≡ texts_command (map string_bytes words.now) → OnErr result (PartBy (map string_bytes words.now) (⟦<(S, F) as SidesSeen>⟧.change (shelf.old, far.old) (shelf.new, far.new))) }
+    ensures done { AskForTexts (map string_bytes words.now) → IfOk result (DoneBy (map string_bytes words.now) (⟦<(S, F) as SidesSeen>⟧.change (shelf.old, far.old) (shelf.new, far.new))) }
+    ensures part { AskForTexts (map string_bytes words.now) → OnErr result (PartBy (map string_bytes words.now) (⟦<(S, F) as SidesSeen>⟧.change (shelf.old, far.old) (shelf.new, far.new))) }
     ensures read { IfOk result (λ due. ReadCause (⟦<S as ShelfSeen>⟧.side shelf.old) (⟦<S as ShelfSeen>⟧.side shelf.new) due.status) }
     ensures unwritten { IfOk result (λ due. due.status ≢ status.WriteFault) }
     ensures failed { IfOk result (λ due. due.status ≡ status.FarFault → Rose (F.faults far.old) (F.faults far.new)) }

@@ -7,7 +7,7 @@ ghost use Rattle.mdr_outside.specs.Count.{Rose};
 ghost use Rattle.mdr_outside.specs.Sink.{Takes, wrote};
 ghost use Rattle.mdr_outside.specs.declared.sink.SinkAnswer.TheVariants as sinks;
 ghost use Rattle.mdr_due.specs.declared.status.Status.TheVariants as status;
-ghost use Rattle.mdr_split_runner.specs.Ends.{FailedLast};
+ghost use Rattle.mdr_top.specs.Ends.{FailedLast};
 ghost use Rattle.mdr_top.specs.Answers.{Prints};
 ghost use Rattle.mdr_top.specs.Done.{Does};
 ghost use Rattle.mdr_top.specs.Cuts.{WriteCause};

@@ -3,12 +3,12 @@
 ghost use Rattle.std.specs.Prelude.{◌≡◌, ◌≢◌, IfOk, OnErr};
 ghost use Rattle.mdr_due.specs.Statuses.{ReadCause};
 ghost use Rattle.mdr_due.specs.declared.status.Status.TheVariants as status;
-ghost use Rattle.mdr_verifier.specs.Verifies.{Verifies, VerifiesPart};
+ghost use Rattle.mdr_top.specs.Verifies.{Verifies, VerifiesPart};
 
+use crate::transcript_running::verified;
 use mdr_core::OutOfMemory;
 use mdr_due::Due;
 use mdr_outside::{Shelf, ShelfSeen};
-use mdr_verifier::verified;
 use std::alloc::Global;
 
 /// Judges a transcript by the run of a script over the two halves of a source, all three from the shelf.

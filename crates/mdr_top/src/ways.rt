@@ -7,13 +7,13 @@ ghost use Rattle.mdr_outside.specs.Count.{Rose};
 ghost use Rattle.mdr_top.specs.Done.{RunDoneBy, RunPartBy};
 ghost use Rattle.mdr_top.specs.Words.{OfFiles};
 
+use crate::sides_seen::SidesSeen;
 use crate::split::run_split;
 use crate::whole::run_whole;
 use crate::words::Way;
 use mdr_core::OutOfMemory;
 use mdr_due::Due;
 use mdr_outside::{Far, Shelf, ShelfSeen};
-use mdr_split_runner::SidesSeen;
 use std::alloc::Global;
 
 /// Runs a script over a source, both from the shelf.

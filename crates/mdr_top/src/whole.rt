@@ -3,13 +3,14 @@
 ghost use Rattle.std.specs.Prelude.{◌≡◌, ◌≢◌, IfOk, OnErr};
 ghost use Rattle.mdr_due.specs.Statuses.{ReadCause};
 ghost use Rattle.mdr_due.specs.declared.status.Status.TheVariants as status;
-ghost use Rattle.mdr_runner.specs.Runs.{Runs, RunsPart};
+ghost use Rattle.mdr_top.specs.WholeRuns.{Runs, RunsPart};
 ghost use Rattle.mdr_top.specs.Wholes.{IsOfWhole};
 
+use crate::manner::Manner;
+use crate::whole_running::whole;
 use mdr_core::OutOfMemory;
 use mdr_due::Due;
 use mdr_outside::{Shelf, ShelfSeen};
-use mdr_runner::{Manner, whole};
 use std::alloc::Global;
 
 /// Runs a script over a source on one memory, both from the shelf, in the manner that is asked for.

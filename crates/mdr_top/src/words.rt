@@ -5,10 +5,10 @@ ghost use Rattle.mdr_top.specs.Budgets.{budget_of};
 ghost use Rattle.mdr_top.specs.Words.{cutting_of, cut_of, whole_way, split_way, way_by, way_of, run_as, run_of, recipe_by, recipe_of, verify_of};
 
 use crate::flags::{Flags, flags_of};
+use crate::manner::Manner;
+use crate::recipe::Recipe;
+use crate::split_manner::SplitManner;
 use crate::ticks::{seed_of, size_of};
-use mdr_generated::Recipe;
-use mdr_runner::Manner;
-use mdr_split_runner::SplitManner;
 
 /// What is asked of a source that is cut.
 #[derive(Clone, Copy)]

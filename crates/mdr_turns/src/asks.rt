@@ -1,21 +1,16 @@
 // Services that a reply asks for.
 
-ghost use Rattle.std.specs.Prelude.{◌≡◌, ℕ, List, drop, IfOk};
+ghost use Rattle.std.specs.Prelude.{◌≡◌, IfOk};
 ghost use Rattle.mdr_core.specs.Sound.{IsSound};
-ghost use Rattle.mdr_core.specs.declared.place.At.{At as AnyPlace};
 ghost use Rattle.mdr_events.specs.Events.{asked_as};
 ghost use Rattle.mdr_events.specs.Values.{wires_of};
-ghost use Rattle.mdr_meaning.specs.declared.shape.Shape64.{Shape64 as AnyShape};
 ghost use Rattle.mdr_meaning.specs.Lives.{asked_for};
-ghost use Rattle.mdr_model.specs.declared.command.Command.{Command as AnyCommand};
-ghost use Rattle.mdr_plain.specs.World.{World as AnyWorld};
-ghost use Rattle.mdr_split.specs.Kernel.{answers, serviced};
+ghost use Rattle.mdr_plain.specs.World.{Ended};
+ghost use Rattle.mdr_split.specs.Kernel.{serviced};
 ghost use Rattle.mdr_split.specs.Services.{counted};
-ghost use Rattle.mdr_split.specs.State.{Noted};
-ghost use Rattle.mdr_watched.specs.Watched.{held, serves};
 ghost use Rattle.mdr_watch.specs.Watching.{driver_in};
-ghost use Rattle.mdr_turns.specs.Coming.{ComesTo, KeptFor};
-ghost use Rattle.mdr_turns.specs.States.{IsActive, kernel_in, kernel_with, upcall_of};
+ghost use Rattle.mdr_turns.specs.Coming.{ComesAlways, ActiveGoesOn, KeptFor, OfEachAsked, asks};
+ghost use Rattle.mdr_turns.specs.States.{IsActive, upcall_of};
 
 use crate::ending::over_in;
 use crate::replies::given;
@@ -39,7 +34,7 @@ fn results_of(
     upcall: &mut Open,
 ) -> Result<Items<Wire>, OutOfMemory>
     ensures wires { IfOk result (λ ws. ws ≡ wires_of results.now) }
-    ensures counted { IfOk result (λ _. (at : AnyPlace) (shapes : List AnyShape) (bytes : List ℕ) → upcall_of upcall.new ≡ counted (asked_for service at args.now shapes bytes) (wires_of results.now) (upcall_of upcall.old)) }
+    ensures counted { IfOk result (λ _. OfEachAsked service args.now (λ asked. upcall_of upcall.new ≡ counted asked (wires_of results.now) (upcall_of upcall.old))) }
     ensures done { IfOk result (λ _. upcall.new.done ≡ upcall.old.done) }
 {
     let wires = wires_of(alloc, results)?;
@@ -65,7 +60,7 @@ fn answered<'a>(
 ) -> Result<Pending<'a>, OutOfMemory>
     requires active { IsActive watch active }
     ensures kept { IfOk result (KeptFor watch.entry) }
-    ensures comes { IfOk result (λ p. (script : List AnyCommand) (before : AnyWorld) (at : AnyPlace) (shapes : List AnyShape) (bytes : List ℕ) → ComesTo p script (answers (driver_in watch.entry) (wires_of results.now) active.entry.guarded.world (kernel_with active.entry.ledger before) (counted (asked_for service at args.now shapes bytes) (wires_of results.now) (upcall_of active.entry.open)) Noted (drop active.entry.open.done script))) }
+    ensures comes { IfOk result (λ p. OfEachAsked service args.now (λ q. ActiveGoesOn p active.entry (serviced (driver_in watch.entry) q (Ended (wires_of results.now) active.entry.guarded.world)))) }
 {
     let mut active = active;
     match results_of(alloc, service, args, results, &mut active.open) {
@@ -89,7 +84,7 @@ fn served<'a>(
     requires active { IsActive watch active }
     requires args { wires_of asked.now.args ≡ args.now }
     ensures kept { IfOk result (KeptFor watch.entry) }
-    ensures comes { IfOk result (λ p. (script : List AnyCommand) → ComesTo p script (serviced (driver_in watch.entry) (asked_as asked.now) (serves (driver_in watch.entry) (held (driver_in watch.entry)) active.entry.open.func (asked_as asked.now) active.entry.guarded.world) (kernel_in active.entry) (upcall_of active.entry.open) Noted (drop active.entry.open.done script))) }
+    ensures comes { IfOk result (λ p. ComesAlways p (asks (driver_in watch.entry) active.entry (asked_as asked.now))) }
 {
     let mut active = active;
     let upcall = Upcall {
@@ -127,7 +122,7 @@ pub(crate) fn asks<'a>(
     requires sound { IsSound watch.program.now }
     requires active { IsActive watch active }
     ensures kept { IfOk result (KeptFor watch.entry) }
-    ensures comes { IfOk result (λ p. (script : List AnyCommand) → ComesTo p script (serviced (driver_in watch.entry) (asked_for service at args.now shapes bytes) (serves (driver_in watch.entry) (held (driver_in watch.entry)) active.entry.open.func (asked_for service at args.now shapes bytes) active.entry.guarded.world) (kernel_in active.entry) (upcall_of active.entry.open) Noted (drop active.entry.open.done script))) }
+    ensures comes { IfOk result (λ p. ComesAlways p (asks (driver_in watch.entry) active.entry (asked_for service at args.now shapes bytes))) }
 {
     match given(alloc, &active.guarded, args) {
         Ok(values) => {

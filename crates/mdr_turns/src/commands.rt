@@ -4,17 +4,12 @@ ghost use Rattle.std.specs.Prelude.{◌≡◌, List, drop, true, IfOk};
 ghost use Rattle.mdr_core.specs.Sound.{IsSound};
 ghost use Rattle.mdr_model.specs.declared.command.Command.{Command as AnyCommand};
 ghost use Rattle.mdr_model.specs.declared.command.Command.TheVariants as command;
-ghost use Rattle.mdr_plain.specs.Scripts.{begin};
-ghost use Rattle.mdr_plain.specs.World.{World as AnyWorld};
-ghost use Rattle.mdr_split.specs.Kernel.{split_by, then_split};
-ghost use Rattle.mdr_split.specs.State.{Kernel as AnyKernel, Pending as AnyPending};
 ghost use Rattle.mdr_watched.specs.Driver.{is_user as is_user_in};
-ghost use Rattle.mdr_watched.specs.Watched.{kernel_of as kernel_code_of};
 ghost use Rattle.mdr_watch.specs.declared.watch.Watch.{Watch as AnyWatch};
 ghost use Rattle.mdr_watch.specs.Watching.{IsFit, IsKernel, driver_in};
 ghost use Rattle.mdr_whole.specs.Ending.{worked_as};
-ghost use Rattle.mdr_turns.specs.Coming.{CommandedFor, CommandedTo};
-ghost use Rattle.mdr_turns.specs.States.{IsBetween, kernel_at, kernel_with};
+ghost use Rattle.mdr_turns.specs.Coming.{CommandedFor, LeadsOn, LeadsTo, commanded_at};
+ghost use Rattle.mdr_turns.specs.States.{IsBetween};
 
 use crate::state::{Between, Commanded, Pending};
 use crate::upcalls::calls;
@@ -37,7 +32,7 @@ fn upcall_command<'a>(
     requires between { IsBetween watch between }
     requires user { is_user_in watch.plan.now func ≡ true }
     ensures kept { IfOk result (CommandedFor watch.entry) }
-    ensures comes { IfOk result (λ c. (script : List AnyCommand) (go : AnyKernel → AnyPending) → CommandedTo c script go (split_by (begin (kernel_code_of (driver_in watch.entry)) (is_user_in watch.entry.plan.now) (command.Call func args.now) between.entry.world.world) (driver_in watch.entry) (drop begun script) (kernel_at between.entry) go)) }
+    ensures comes { IfOk result (λ c. LeadsTo c (λ script go. commanded_at (driver_in watch.entry) (command.Call func args.now) between.entry (drop begun script) go)) }
 {
     let mut between = between;
     match note_call(alloc, &mut between.world, func, args) {
@@ -55,7 +50,7 @@ fn upcall_command<'a>(
 /// What follows work that the kernel half did.
 pub(crate) fn behind<'a>(worked: Worked, between: Between<'a>) -> Commanded<'a>
     ensures kept { (watch : AnyWatch) → IsBetween watch between.entry → CommandedFor watch result }
-    ensures comes { (script : List AnyCommand) (before : AnyWorld) (go : AnyKernel → AnyPending) → CommandedTo result script go (then_split (worked_as worked between.entry.world.world) (kernel_with between.entry.ledger before) go) }
+    ensures comes { LeadsOn result between.entry.ledger (worked_as worked between.entry.world.world) }
 {
     match worked {
         Worked::Done => Commanded::Goes(between),
@@ -79,7 +74,7 @@ fn kernel_command<'a>(
     requires between { IsBetween watch between }
     requires kernel { IsKernel watch.plan.now command.now }
     ensures kept { IfOk result (CommandedFor watch.entry) }
-    ensures comes { IfOk result (λ c. (script left : List AnyCommand) (go : AnyKernel → AnyPending) → CommandedTo c script go (split_by (begin (kernel_code_of (driver_in watch.entry)) (is_user_in watch.entry.plan.now) command.now between.entry.world.world) (driver_in watch.entry) left (kernel_at between.entry) go)) }
+    ensures comes { IfOk result (λ c. (left : List AnyCommand) → LeadsTo c (λ script go. commanded_at (driver_in watch.entry) command.now between.entry left go)) }
 {
     let mut between = between;
     match do_command(alloc, kernel_code(watch), &mut between.world, command) {
@@ -103,7 +98,7 @@ pub(crate) fn command<'a>(
     requires fit { IsFit watch }
     requires between { IsBetween watch between }
     ensures kept { IfOk result (CommandedFor watch.entry) }
-    ensures comes { IfOk result (λ c. (script : List AnyCommand) (go : AnyKernel → AnyPending) → CommandedTo c script go (split_by (begin (kernel_code_of (driver_in watch.entry)) (is_user_in watch.entry.plan.now) command.now between.entry.world.world) (driver_in watch.entry) (drop begun script) (kernel_at between.entry) go)) }
+    ensures comes { IfOk result (λ c. LeadsTo c (λ script go. commanded_at (driver_in watch.entry) command.now between.entry (drop begun script) go)) }
 {
     match command {
         Command::Call(func, args) => {

@@ -1,15 +1,11 @@
 // Calls of functions of the kernel half.
 
-ghost use Rattle.std.specs.Prelude.{◌≡◌, List, drop, IfOk};
+ghost use Rattle.std.specs.Prelude.{IfOk};
 ghost use Rattle.mdr_core.specs.Sound.{IsSound};
 ghost use Rattle.mdr_events.specs.Values.{wires_of};
-ghost use Rattle.mdr_model.specs.declared.command.Command.{Command as AnyCommand};
-ghost use Rattle.mdr_split.specs.Kernel.{downcalled};
-ghost use Rattle.mdr_split.specs.State.{Noted};
-ghost use Rattle.mdr_watched.specs.Watched.{downcall, held, may_not};
 ghost use Rattle.mdr_watch.specs.Watching.{IsFit, driver_in};
-ghost use Rattle.mdr_turns.specs.Coming.{ComesTo, KeptFor};
-ghost use Rattle.mdr_turns.specs.States.{IsActive, kernel_in, upcall_of};
+ghost use Rattle.mdr_turns.specs.Coming.{ComesAlways, KeptFor, goes_down};
+ghost use Rattle.mdr_turns.specs.States.{IsActive};
 
 use crate::ending::over_in;
 use crate::replies::given;
@@ -33,7 +29,7 @@ fn crossed<'a>(
     requires fit { IsFit watch }
     requires active { IsActive watch active }
     ensures kept { IfOk result (KeptFor watch.entry) }
-    ensures comes { IfOk result (λ p. (script : List AnyCommand) → ComesTo p script (downcalled (driver_in watch.entry) (downcall (driver_in watch.entry) (held (driver_in watch.entry)) active.entry.open.func may_not crossing.now.at crossing.now.func (wires_of crossing.now.args) crossing.now.depth active.entry.guarded.world) (kernel_in active.entry) (upcall_of active.entry.open) Noted (drop active.entry.open.done script))) }
+    ensures comes { IfOk result (λ p. ComesAlways p (goes_down (driver_in watch.entry) active.entry crossing.now.at crossing.now.func (wires_of crossing.now.args) crossing.now.depth)) }
 {
     let mut active = active;
     let upcall = Upcall {
@@ -64,7 +60,7 @@ pub(crate) fn goes_down<'a>(
     requires fit { IsFit watch }
     requires active { IsActive watch active }
     ensures kept { IfOk result (KeptFor watch.entry) }
-    ensures comes { IfOk result (λ p. (script : List AnyCommand) → ComesTo p script (downcalled (driver_in watch.entry) (downcall (driver_in watch.entry) (held (driver_in watch.entry)) active.entry.open.func may_not at func args.now depth active.entry.guarded.world) (kernel_in active.entry) (upcall_of active.entry.open) Noted (drop active.entry.open.done script))) }
+    ensures comes { IfOk result (λ p. ComesAlways p (goes_down (driver_in watch.entry) active.entry at func args.now depth)) }
 {
     match given(alloc, &active.guarded, args) {
         Ok(values) => {

@@ -1,14 +1,14 @@
 // An answer is judged.
 
-ghost use Rattle.std.specs.Prelude.{◌≡◌, drop, List, IfOk};
+ghost use Rattle.std.specs.Prelude.{◌≡◌, List, Some, IfOk};
 ghost use Rattle.mdr_core.specs.Sound.{IsSound};
 ghost use Rattle.mdr_model.specs.declared.command.Command.{Command as AnyCommand};
-ghost use Rattle.mdr_split.specs.Kernel.{answered, judged, refused};
+ghost use Rattle.mdr_split.specs.Kernel.{answered, refused};
 ghost use Rattle.mdr_split.specs.Legal.{fault_of};
 ghost use Rattle.mdr_split.specs.State.{Noted};
 ghost use Rattle.mdr_watch.specs.declared.watch.Watch.{Watch as AnyWatch};
 ghost use Rattle.mdr_watch.specs.Watching.{IsFit, driver_in};
-ghost use Rattle.mdr_turns.specs.Coming.{ComesTo, KeptFor};
+ghost use Rattle.mdr_turns.specs.Coming.{ComesTo, KeptFor, from_waiting};
 ghost use Rattle.mdr_turns.specs.States.{IsActive, StandsFor, kernel_in, kernel_of, open_of};
 
 use crate::ending::over_in;
@@ -87,7 +87,7 @@ fn judged<'a>(
     requires fit { IsFit watch }
     requires stands { StandsFor watch waiting }
     ensures kept { IfOk result (KeptFor watch.entry) }
-    ensures comes { IfOk result (λ p. ComesTo p script.now (judged (driver_in watch.entry) (fault_of (driver_in watch.entry) (kernel_of waiting.entry) (open_of waiting.entry) Noted reply) reply (kernel_of waiting.entry) (open_of waiting.entry) Noted (drop waiting.entry.open.done script.now))) }
+    ensures comes { IfOk result (λ p. ComesTo p script.now (from_waiting waiting.entry script.now (answered (driver_in watch.entry) (Some reply)))) }
 {
     match fault_in(watch, &waiting, &reply) {
         Some(fault) => {
@@ -110,7 +110,7 @@ pub(crate) fn answered<'a>(
     requires fit { IsFit watch }
     requires stands { StandsFor watch waiting }
     ensures kept { IfOk result (KeptFor watch.entry) }
-    ensures comes { IfOk result (λ p. ComesTo p script.now (answered (driver_in watch.entry) reply (kernel_of waiting.entry) (open_of waiting.entry) Noted (drop waiting.entry.open.done script.now))) }
+    ensures comes { IfOk result (λ p. ComesTo p script.now (from_waiting waiting.entry script.now (answered (driver_in watch.entry) reply))) }
 {
     match reply {
         Some(reply) => judged(alloc, watch, script, waiting, reply),

@@ -1,18 +1,16 @@
 // The messages that the kernel half sends.
 
-ghost use Rattle.std.specs.Prelude.{◌≡◌, [], ◌∷◌, List, drop, IfOk};
+ghost use Rattle.std.specs.Prelude.{◌≡◌, [], ◌∷◌, IfOk};
 ghost use Rattle.mdr_events.specs.Values.{wires_of};
 ghost use Rattle.mdr_meaning.specs.Values.{wire_of};
-ghost use Rattle.mdr_model.specs.declared.command.Command.{Command as AnyCommand};
 ghost use Rattle.mdr_model.specs.declared.message.Message.TheVariants as message;
 ghost use Rattle.mdr_model.specs.Copies.{tells};
-ghost use Rattle.mdr_plain.specs.World.{World as AnyWorld, done};
+ghost use Rattle.mdr_plain.specs.World.{done};
 ghost use Rattle.mdr_slice.specs.Calls.{names_of};
 ghost use Rattle.mdr_split.specs.Kernel.{answers, called, comes_back};
-ghost use Rattle.mdr_split.specs.State.{Noted};
 ghost use Rattle.mdr_watch.specs.Watching.{driver_in};
-ghost use Rattle.mdr_turns.specs.Coming.{ComesTo, KeptFor};
-ghost use Rattle.mdr_turns.specs.States.{IsActive, StandsFor, begins, kernel_with, sent_with, told_by, told_unseen, upcall_of};
+ghost use Rattle.mdr_turns.specs.Coming.{ComesWith, ActiveGoesOn, WaitingGoesOn, KeptFor};
+ghost use Rattle.mdr_turns.specs.States.{IsActive, StandsFor, begins, begun_of, sent_with, told_by, told_unseen, upcall_of};
 
 use crate::seeing::seen;
 use crate::state::{Active, Ledger, Open, Pending, Seen, Waiting};
@@ -82,7 +80,7 @@ fn call_sent<'a>(
     requires stands { StandsFor watch waiting }
     requires begins { upcall_of waiting.open ≡ begins func }
     ensures kept { IfOk result (KeptFor watch.entry) }
-    ensures comes { IfOk result (λ p. (script : List AnyCommand) (before : AnyWorld) → ComesTo p script (called (driver_in watch.entry) func (wires_of args.now) (done waiting.entry.seen.guarded.world) (kernel_with waiting.entry.ledger before) (drop waiting.entry.open.done script))) }
+    ensures comes { IfOk result (λ p. ComesWith p waiting.entry.ledger (begun_of waiting.entry) (called (driver_in watch.entry) func (wires_of args.now) (done waiting.entry.seen.guarded.world))) }
 {
     let mut waiting = waiting;
     let lent = &mut waiting;
@@ -115,7 +113,7 @@ pub(crate) fn call_told<'a>(
     requires same { guarded.program ≡ watch.program.now }
     requires passes { ledger.passes ≡ names_of watch.program.now }
     ensures kept { IfOk result (KeptFor watch.entry) }
-    ensures comes { IfOk result (λ p. (script : List AnyCommand) (before : AnyWorld) → ComesTo p script (called (driver_in watch.entry) func (wires_of args.now) (done guarded.entry.world) (kernel_with ledger before) (drop begun script))) }
+    ensures comes { IfOk result (λ p. ComesWith p ledger begun (called (driver_in watch.entry) func (wires_of args.now) (done guarded.entry.world))) }
 {
     let open = Open {
         func,
@@ -163,7 +161,7 @@ fn back_sent<'a>(
 ) -> Result<Pending<'a>, OutOfMemory>
     requires stands { StandsFor watch waiting }
     ensures kept { IfOk result (KeptFor watch.entry) }
-    ensures comes { IfOk result (λ p. (script : List AnyCommand) (before : AnyWorld) → ComesTo p script (comes_back (driver_in watch.entry) value waiting.entry.seen.guarded.world (kernel_with waiting.entry.ledger before) (upcall_of waiting.entry.open) Noted (drop waiting.entry.open.done script))) }
+    ensures comes { IfOk result (λ p. WaitingGoesOn p waiting.entry (comes_back (driver_in watch.entry) value waiting.entry.seen.guarded.world)) }
 {
     let mut waiting = waiting;
     let lent = &mut waiting;
@@ -185,7 +183,7 @@ pub(crate) fn back_told<'a>(
 ) -> Result<Pending<'a>, OutOfMemory>
     requires active { IsActive watch active }
     ensures kept { IfOk result (KeptFor watch.entry) }
-    ensures comes { IfOk result (λ p. (script : List AnyCommand) (before : AnyWorld) → ComesTo p script (comes_back (driver_in watch.entry) (wire_of value) active.entry.guarded.world (kernel_with active.entry.ledger before) (upcall_of active.entry.open) Noted (drop active.entry.open.done script))) }
+    ensures comes { IfOk result (λ p. ActiveGoesOn p active.entry (comes_back (driver_in watch.entry) (wire_of value) active.entry.guarded.world)) }
 {
     let waiting = seen(alloc, active)?;
     back_sent(alloc, watch, wire_of(value), waiting)
@@ -222,7 +220,7 @@ fn answer_sent<'a>(
 ) -> Result<Pending<'a>, OutOfMemory>
     requires stands { StandsFor watch waiting }
     ensures kept { IfOk result (KeptFor watch.entry) }
-    ensures comes { IfOk result (λ p. (script : List AnyCommand) (before : AnyWorld) → ComesTo p script (answers (driver_in watch.entry) results waiting.entry.seen.guarded.world (kernel_with waiting.entry.ledger before) (upcall_of waiting.entry.open) Noted (drop waiting.entry.open.done script))) }
+    ensures comes { IfOk result (λ p. WaitingGoesOn p waiting.entry (answers (driver_in watch.entry) results waiting.entry.seen.guarded.world)) }
 {
     let mut waiting = waiting;
     let lent = &mut waiting;
@@ -244,7 +242,7 @@ pub(crate) fn answer_told<'a>(
 ) -> Result<Pending<'a>, OutOfMemory>
     requires active { IsActive watch active }
     ensures kept { IfOk result (KeptFor watch.entry) }
-    ensures comes { IfOk result (λ p. (script : List AnyCommand) (before : AnyWorld) → ComesTo p script (answers (driver_in watch.entry) results active.entry.guarded.world (kernel_with active.entry.ledger before) (upcall_of active.entry.open) Noted (drop active.entry.open.done script))) }
+    ensures comes { IfOk result (λ p. ActiveGoesOn p active.entry (answers (driver_in watch.entry) results active.entry.guarded.world)) }
 {
     match seen(alloc, active) {
         Ok(waiting) => answer_sent(alloc, watch, results, waiting),

@@ -1,16 +1,14 @@
 // What a legal reply does.
 
-ghost use Rattle.std.specs.Prelude.{◌≡◌, List, None, drop, IfOk};
+ghost use Rattle.std.specs.Prelude.{◌≡◌, None, drop, IfOk};
 ghost use Rattle.mdr_core.specs.Sound.{IsSound};
-ghost use Rattle.mdr_model.specs.declared.command.Command.{Command as AnyCommand};
-ghost use Rattle.mdr_plain.specs.World.{World as AnyWorld};
 ghost use Rattle.mdr_slice.specs.Calls.{names_of};
-ghost use Rattle.mdr_split.specs.Kernel.{continued, ended, taken, then_split};
+ghost use Rattle.mdr_split.specs.Kernel.{continued, ended, taken};
 ghost use Rattle.mdr_split.specs.Legal.{fault_of};
-ghost use Rattle.mdr_split.specs.State.{Kernel as AnyKernel, Noted, Pending as AnyPending};
+ghost use Rattle.mdr_split.specs.State.{Noted};
 ghost use Rattle.mdr_watch.specs.Watching.{IsFit, driver_in};
-ghost use Rattle.mdr_turns.specs.Coming.{CommandedFor, CommandedTo, ComesTo, KeptFor};
-ghost use Rattle.mdr_turns.specs.States.{IsActive, kernel_in, kernel_with, upcall_of};
+ghost use Rattle.mdr_turns.specs.Coming.{CommandedFor, ComesTo, KeptFor, LeadsOn, from_active};
+ghost use Rattle.mdr_turns.specs.States.{IsActive, kernel_in, upcall_of};
 
 use crate::applied::applied;
 use crate::asks::asks;
@@ -40,7 +38,7 @@ fn ended<'a>(
     requires same { guarded.program ≡ watch.program.now }
     requires passes { ledger.passes ≡ names_of watch.program.now }
     ensures kept { IfOk result (CommandedFor watch.entry) }
-    ensures comes { IfOk result (λ c. (script : List AnyCommand) (before : AnyWorld) (go : AnyKernel → AnyPending) → CommandedTo c script go (then_split (ended (driver_in watch.entry) wire guarded.entry.world) (kernel_with ledger before) go)) }
+    ensures comes { IfOk result (λ c. LeadsOn c ledger (ended (driver_in watch.entry) wire guarded.entry.world)) }
 {
     let mut world = guarded.close();
     let gave = Gave::Value(value_of(&world, wire));
@@ -96,7 +94,7 @@ pub(crate) fn taken<'a>(
     requires active { IsActive watch active }
     requires legal { fault_of (driver_in watch) (kernel_in active) (upcall_of active.open) Noted reply ≡ None }
     ensures kept { IfOk result (KeptFor watch.entry) }
-    ensures comes { IfOk result (λ p. ComesTo p script.now (taken (driver_in watch.entry) reply (kernel_in active.entry) (upcall_of active.entry.open) Noted (drop active.entry.open.done script.now))) }
+    ensures comes { IfOk result (λ p. ComesTo p script.now (from_active active.entry script.now (taken (driver_in watch.entry) reply))) }
 {
     match reply {
         Reply::Return {

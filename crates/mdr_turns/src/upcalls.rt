@@ -1,17 +1,16 @@
 // A function of the user half is called.
 
-ghost use Rattle.std.specs.Prelude.{◌≡◌, [], List, drop, IfOk};
+ghost use Rattle.std.specs.Prelude.{◌≡◌, [], IfOk};
 ghost use Rattle.mdr_events.specs.Values.{wires_of};
-ghost use Rattle.mdr_model.specs.declared.command.Command.{Command as AnyCommand};
-ghost use Rattle.mdr_plain.specs.World.{World as AnyWorld, done};
+ghost use Rattle.mdr_plain.specs.World.{done};
 ghost use Rattle.mdr_slice.specs.Calls.{names_of};
 ghost use Rattle.mdr_split.specs.Kernel.{called, calls};
 ghost use Rattle.mdr_viewed.specs.Viewed.{IsOlder};
 ghost use Rattle.mdr_watched.specs.Order.{AreLive};
 ghost use Rattle.mdr_watched.specs.Views.{opened};
 ghost use Rattle.mdr_watch.specs.Watching.{driver_in};
-ghost use Rattle.mdr_turns.specs.Coming.{ComesTo, KeptFor};
-ghost use Rattle.mdr_turns.specs.States.{IsBetween, kernel_with};
+ghost use Rattle.mdr_turns.specs.Coming.{ComesWith, KeptFor};
+ghost use Rattle.mdr_turns.specs.States.{IsBetween};
 
 use crate::sending::call_told;
 use crate::state::{Between, Ledger, Pending};
@@ -39,7 +38,7 @@ fn call_opened<'a>(
     requires live { AreLive world.world.memory set }
     requires older { IsOlder set world.world }
     ensures kept { IfOk result (KeptFor watch.entry) }
-    ensures comes { IfOk result (λ p. (script : List AnyCommand) (before : AnyWorld) → ComesTo p script (called (driver_in watch.entry) func (wires_of args.now) (done (opened set world.entry.world)) (kernel_with ledger before) (drop begun script))) }
+    ensures comes { IfOk result (λ p. ComesWith p ledger begun (called (driver_in watch.entry) func (wires_of args.now) (done (opened set world.entry.world)))) }
 {
     let guarded = Guarded::new(world, set);
     call_told(alloc, watch, func, args, guarded, ledger, begun)
@@ -58,7 +57,7 @@ pub(crate) fn calls<'a>(
 ) -> Result<Pending<'a>, OutOfMemory>
     requires between { IsBetween watch between }
     ensures kept { IfOk result (KeptFor watch.entry) }
-    ensures comes { IfOk result (λ p. (script : List AnyCommand) (before : AnyWorld) → ComesTo p script (calls (driver_in watch.entry) func (wires_of args.now) between.entry.world.world (kernel_with between.entry.ledger before) (drop begun script))) }
+    ensures comes { IfOk result (λ p. ComesWith p between.entry.ledger begun (calls (driver_in watch.entry) func (wires_of args.now) between.entry.world.world)) }
 {
     match first_set(alloc, Upcall { watch, func }, args, &between.world) {
         Ok(Ok(set)) => {

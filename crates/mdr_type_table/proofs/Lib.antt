@@ -1,4 +1,14 @@
+pub mod Levels
+pub mod Numbered
+pub mod Formed
+pub mod Apart
+pub mod WorkedTexts
 pub mod Among
 pub mod Before
 pub mod Placed
 pub mod Tabled
+pub mod RightParts
+pub mod Scoped
+pub mod StructNames
+pub mod FuncNames
+pub mod WholeFiles

@@ -12,7 +12,7 @@ use Rattle.mdr_core.specs.Sound.{IsObjectSort}
 use Rattle.mdr_core.specs.Types.{Wrong, Aggregate, first_types, sort_of, is_pointer_by}
 use Rattle.mdr_check.specs.declared.table.TextedType.{TextedType}
 use Rattle.mdr_check.specs.Tables.{struct_types, types_alone}
-use Rattle.mdr_type_text.proofs.Levels.{sort_at}
+use Rattle.mdr_type_table.proofs.Levels.{sort_at}
 
 -- the number that a type has in each table, where it has one
 abbrev pub first_number : Ty-F Ty → Option ℕ

@@ -19,9 +19,9 @@ use Rattle.mdr_program.specs.Programs.{made}
 use Rattle.mdr_program.proofs.FirstNumbers.{tables_have_first_numbers}
 use Rattle.mdr_program.proofs.Happening.{types_occur}
 use Rattle.mdr_program.proofs.Rising.{tables_are_in_order}
-use Rattle.mdr_type_text.specs.Apart.{AreNamed, IsFormed}
-use Rattle.mdr_type_text.proofs.Apart.{texts_tell_types_apart}
-use Rattle.mdr_type_text.proofs.Levels.{sort_at, pointer_scalar}
+use Rattle.mdr_type_table.specs.Apart.{AreNamed, IsFormed}
+use Rattle.mdr_type_table.proofs.Apart.{texts_tell_types_apart}
+use Rattle.mdr_type_table.proofs.Levels.{sort_at, pointer_scalar}
 use Rattle.mdr_type_table.specs.Tabled.{TablesHaveEachType, TypesThatOccurHaveNumbers}
 use Rattle.mdr_type_table.proofs.Among.{tables_list_what_occurs}
 use Rattle.mdr_type_table.proofs.Before.{place_once, next_rises}

@@ -1,1 +1,4 @@
+pub mod Apart
+pub mod Worked
 pub mod Tabled
+pub mod FileNames

@@ -10,7 +10,7 @@ use Rattle.mdr_program.specs.declared.parts.Parts.{Parts}
 use Rattle.mdr_program.specs.Occurring.{occurring}
 use Rattle.mdr_program.specs.Orders.{IsAmong}
 use Rattle.mdr_program.specs.Programs.{made}
-use Rattle.mdr_type_text.specs.Apart.{AreNamed, IsFormed}
+use Rattle.mdr_type_table.specs.Apart.{AreNamed, IsFormed}
 
 abbrev pub TablesListWhatOccurs : Type 0
 TablesListWhatOccurs = (ps : Parts) (ty : Ty) → Occurs (made ps) ty → IsAmong ty (occurring ps)

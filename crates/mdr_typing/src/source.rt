@@ -11,7 +11,8 @@ ghost use Rattle.mdr_express.specs.Expressions.{typed};
 ghost use Rattle.mdr_call.specs.declared.parts.TypedCall.{TypedCall};
 ghost use Rattle.mdr_typing.specs.declared.source.Source.{Source};
 ghost use Rattle.mdr_typing.specs.declared.source.Source.TheVariants as source;
-ghost use Rattle.mdr_typing.specs.Sources.{value_source, call_source, is_pointer_value, is_pointer_of, pointer_source, cast_source, source_of, call_as, value_to, call_to, source_stored, value_back, call_back, source_returned};
+ghost use Rattle.mdr_typing.specs.Sources.{value_source, call_source, is_pointer_value, is_pointer_of, pointer_source, cast_source, source_of};
+ghost use Rattle.mdr_typing.specs.Sources.{call_as, value_to, call_to, source_stored, value_back, call_back, source_returned};
 
 use crate::becoming::becomes;
 use mdr_assign::told_instead;

@@ -5,8 +5,7 @@ use Rattle.mdr_core.specs.declared.program.Program.{Program}
 use Rattle.mdr_events.specs.Held.{bare}
 use Rattle.mdr_events.specs.Steps.{child}
 use Rattle.mdr_meaning.specs.Bodies.{known_of, user_side}
-use Rattle.mdr_meaning.specs.Walk.{Reached, Walked, walk}
-use Rattle.mdr_model.specs.declared.memory.Cell.{Cell}
+use Rattle.mdr_meaning.specs.Walk.{Walked, walk}
 use Rattle.mdr_model.specs.declared.message.Fault.{Fault}
 use Rattle.mdr_model.specs.declared.message.Message.{Message}
 use Rattle.mdr_model.specs.declared.message.Message.TheVariants as message
@@ -17,7 +16,7 @@ use Rattle.mdr_model.specs.User.{allowance, granted}
 use Rattle.mdr_model.proofs.FuelLaws.{allowance-append, allowance_one}
 use Rattle.mdr_model.proofs.Tests.{not_both}
 use Rattle.mdr_plain.specs.Storage.{first_memory}
-use Rattle.mdr_split.specs.User.{Delivered, User, Opened, deliver, done, first_user, guarded, replied, user_after, user_reply}
+use Rattle.mdr_split.specs.User.{Delivered, Opened, User, deliver, done, first_user, guarded, user_after, user_reply}
 use Rattle.mdr_split.proofs.FuelLaws.{reply_with_fuel, same_deliver, user_after-append}
 use Rattle.mdr_user_memory.specs.Kept.{IsLived}
 use Rattle.mdr_user_memory.specs.Lived.{Lived, lived_of}
@@ -27,10 +26,12 @@ use Rattle.mdr_user_code.specs.declared.opening.Turn.{Turn}
 use Rattle.mdr_user_code.specs.declared.state.Awaits.{Awaits}
 use Rattle.mdr_user_code.specs.declared.state.Awaits.TheVariants as awaits
 use Rattle.mdr_user_code.specs.declared.state.State.{State}
-use Rattle.mdr_user_code.specs.Opening.{func_for, opening_for, opens_as, tree_for}
+use Rattle.mdr_user_code.specs.Opening.{below_for, func_for, opening_for, opens_as, tree_for}
 use Rattle.mdr_user_code.specs.Replying.{Proceeds}
-use Rattle.mdr_user_code.specs.Standing.{Follows, Opens, Replies, lived_after, lived_behind, lived_from, opens_by, cut_delivered, cut_user, kept_by, replies_so, user_memory, user_of, work_by, held_in}
+use Rattle.mdr_user_code.specs.Standing.{Follows, Opens, Replies, downs_of, held_in, kept_by, lived_after, lived_behind, lived_from, opens_below, opens_by, replies_so, user_memory, user_of, work_by}
 use Rattle.mdr_user_code.proofs.OpeningLaws.{opens_is, rest_is}
+use Rattle.mdr_split.proofs.RefusalLaws.{no_refusal}
+use Rattle.mdr_split.specs.Fuel.{cut_delivered, cut_user}
 
 -- ---- one message
 
@@ -40,7 +41,7 @@ replies_refused d s m reply reason opens same e = record {
   kept = omega arith;
   opens = opens;
   by = λ fuel more fits.
-      ap (λ (o : Opened). cut_delivered more (done (user_of d fuel s) o)) (opens_is d fuel s m ∙ ap (opens_as (tree_for d fuel s m) (func_for s m)) e)
+      ap (λ (o : Opened). cut_delivered more (done (user_of d fuel s) o)) (opens_is d fuel s m ∙ ap (opens_as (tree_for d fuel s m) (func_for s m) (downs_of d fuel (below_for s m))) e)
       ∙ ap (λ (r : Message). cut_delivered more (replies_so d fuel r s)) (sym same);
   refused = λ told. refl;
   lived = λ l h. subst (λ b. IsLived (lived_behind d.program b (Ok m) l) s.memory) (sym (ap is_refusal same)) h;
@@ -53,21 +54,10 @@ unread d s f opens = record { kept = omega arith; opens = opens; by = λ fuel mo
 pub replies_unread : (d : Driver) (s : State) (x : Reading) (f : Fault) (reply : Message) → Opens d s → x ≡ Err f → reply ≡ message.Refuse 1 → Replies d s x reply s
 replies_unread d s x f reply opens is same = subst (λ y. Replies d s y reply s) (sym is) (subst (λ r. Replies d s (Err f) r s) (sym same) (unread d s f opens))
 
--- what runs is never told as a refusal
-no_refusal : (stub : ℕ) (entered : List ℕ) (view : List Cell) (rest : ℕ) (copy m : Memory) (left : ℕ) (x : Reached) → is_refusal (replied stub entered view rest copy m left x).reply ≡ false
-unfolding replied
-no_refusal stub entered view rest copy m left Reached.Idles = refl
-no_refusal stub entered view rest copy m left (Reached.Opens k) = refl
-no_refusal stub entered view rest copy m left (Reached.Ended v t) = refl
-no_refusal stub entered view rest copy m left (Reached.Stopped kind at) = refl
-no_refusal stub entered view rest copy m left (Reached.Needs at depth t) = refl
-no_refusal stub entered view rest copy m left (Reached.Asks asked k) = refl
-no_refusal stub entered view rest copy m left (Reached.Crosses at func args depth k) = refl
-
 goes_unrefused : (d : Driver) (s s' : State) (m : Message) (turn : Turn) (reply : Message) → Proceeds d s m turn reply s' → is_refusal reply ≡ false
 goes_unrefused d s s' m turn reply p =
     let w : Walked Memory = walk (guarded turn.sight.view) turn.rest (tree_for d (turn.rest + 0) s m) turn.sight.copy in
-    sym (ap (λ (y : Delivered). is_refusal y.reply) (p.by (turn.rest + 0) 0 (omega arith))) ∙ no_refusal (func_for s m) turn.entered turn.sight.view turn.rest turn.sight.copy w.memory w.left w.reached
+    sym (ap (λ (y : Delivered). is_refusal y.reply) (p.by (turn.rest + 0) 0 (omega arith))) ∙ no_refusal (func_for s m) turn.entered turn.sight.view turn.rest turn.sight.copy w.memory (downs_of d (turn.rest + 0) (below_for s m)) w.left w.reached
 
 pub replies_goes : (d : Driver) (s s' : State) (m : Message) (turn : Turn) (reply : Message) → opening_for d s m ≡ opening.Goes turn → Proceeds d s m turn reply s' → Replies d s (Ok m) reply s'
 unfolding deliver
@@ -77,7 +67,7 @@ replies_goes d s s' m turn reply e p =
       kept = le_trans p.kept rest;
       opens = p.opens;
       by = λ fuel more fits.
-          ap (λ (o : Opened). cut_delivered more (done (user_of d fuel s) o)) (opens_is d fuel s m ∙ ap (opens_as (tree_for d fuel s m) (func_for s m)) e)
+          ap (λ (o : Opened). cut_delivered more (done (user_of d fuel s) o)) (opens_is d fuel s m ∙ ap (opens_as (tree_for d fuel s m) (func_for s m) (downs_of d fuel (below_for s m))) e)
           ∙ p.by fuel more (omega (arith, rest, fits));
       refused = λ told. absurd (not_both told (goes_unrefused d s s' m turn reply p));
       lived = λ l h. subst (λ b. IsLived (lived_behind d.program b (Ok m) l) s'.memory) (sym (goes_unrefused d s s' m turn reply p)) (p.lived l h);
@@ -94,15 +84,15 @@ lived_last d before l (y ∷ xs) x =
     lived_last d (before ++ y ∷ []) l' xs x
     ∙ ap (λ (b : List Reading). lived_behind d.program (is_refusal (user_reply d b x)) x (lived_from d (before ++ y ∷ []) l' xs)) (append_assoc before (y ∷ []) xs)
 
-pub begins_so : (program : Program) (plan : Plan) (s : State) → s.memory.agreed ≡ first_memory (known_of program) → s.entered ≡ [] → s.awaits ≡ awaits.Nothing
+pub begins_so : (program : Program) (plan : Plan) (s : State) → s.memory.agreed ≡ first_memory (known_of program) → s.entered ≡ [] → s.awaits ≡ awaits.Nothing → s.below ≡ []
     → IsLived (lived_of (first_memory (known_of program))) s.memory → Follows (driver_of program plan) [] s
 unfolding user_after first_user user_side allowance lived_from
-begins_so program plan s agreed entered none lived = record {
+begins_so program plan s agreed entered none empty lived = record {
   kept = let zero : kept_by s.awaits ≡ 0 = ap kept_by none in omega (arith, zero);
-  opens = subst (λ (a : Awaits). opens_by a (held_in (driver_of program plan) s)) (sym none) tt;
+  opens = (subst (λ (a : Awaits). opens_by a (held_in (driver_of program plan) s)) (sym none) tt, subst (opens_below (driver_of program plan)) (sym empty) tt);
   by = λ fuel more fits.
       let d : Driver = driver_of program plan in
-      λ i. cut_user more (record { agreed = sym agreed i; entered = sym entered i; work = work_by (sym none i) s.func s.view (child (bare d.user fuel (held_in d s))) });
+      λ i. cut_user more (record { agreed = sym agreed i; entered = sym entered i; work = work_by (sym none i) s.func s.view (child (bare d.user fuel (held_in d s))) (downs_of d fuel s.below) });
   lived = lived;
 }
 

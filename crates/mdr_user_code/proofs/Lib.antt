@@ -1,5 +1,6 @@
 mod Sides
 mod CopiedWalks
+mod BelowLaws
 mod RunLaws
 mod OpeningLaws
 mod TidingLaws

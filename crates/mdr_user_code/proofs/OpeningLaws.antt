@@ -1,9 +1,11 @@
 -- What the code opens is what the definition opens.
 use Rattle.std.proofs.Common.{◌≡◌, ℕ, suc, ◌+◌, ◌≤◌, Bool, true, false, List, [], ◌∷◌, Option, Some, None, Ok, refl, sym, ◌∙◌, ap, arith}
 use Rattle.std.specs.Prelude.{◌&&◌, nat_le}
+use Rattle.mdr_core.specs.Layout.{chosen}
 use Rattle.mdr_events.specs.Held.{bare}
 use Rattle.mdr_events.specs.Steps.{child}
 use Rattle.mdr_meaning.specs.declared.wire.Wire.{Wire}
+use Rattle.mdr_meaning.specs.Bodies.{started}
 use Rattle.mdr_meaning.specs.Tree.{Tree}
 use Rattle.mdr_model.specs.declared.memory.Cell.{Cell}
 use Rattle.mdr_model.specs.declared.message.Message.{Message}
@@ -23,10 +25,11 @@ use Rattle.mdr_user_code.specs.declared.opening.Turn.{Turn}
 use Rattle.mdr_user_code.specs.declared.sight.Sight.{Sight}
 use Rattle.mdr_user_code.specs.declared.state.Awaits.{Awaits}
 use Rattle.mdr_user_code.specs.declared.state.Awaits.TheVariants as awaits
+use Rattle.mdr_user_code.specs.declared.state.Downcall.{Downcall}
 use Rattle.mdr_user_code.specs.declared.state.Question.{Question}
 use Rattle.mdr_user_code.specs.declared.state.State.{State}
-use Rattle.mdr_user_code.specs.Opening.{and_then, answer_copy, answered_by, args_fit, back_sight, call_sight, func_for, grown_sight, is_answered, may_enter, only_if, opening_for, opening_of, opens_as, result_fits, tree_for, where_so}
-use Rattle.mdr_user_code.specs.Standing.{held_in, kept_by, user_of}
+use Rattle.mdr_user_code.specs.Opening.{and_then, answer_copy, answered_by, args_fit, back_sight, below_for, call_sight, calls_deeper, func_for, grown_sight, is_answered, may_enter, only_if, opening_for, opening_of, opens_as, result_fits, suspended_by, tree_for, where_so}
+use Rattle.mdr_user_code.specs.Standing.{downs_of, held_in, kept_by, user_of}
 
 -- ---- tests in another order
 
@@ -59,7 +62,7 @@ abbrev sight_of : List Cell → Memory → Sight
 sight_of view copy = record { view = view; copy = copy }
 
 call_sight_is : (d : Driver) (copy : Memory) (entered : List ℕ) (func depth : ℕ) (args : List Wire) (told : Told)
-    → call_sight d copy entered func depth args told ≡ only_if (call_fits d copy entered func depth args told) (sight_of (cells_of_runs told.view) (agreed_after d.program told copy))
+    → call_sight d copy entered func depth args told ≡ only_if (call_fits d copy entered [] func depth args told) (sight_of (cells_of_runs told.view) (agreed_after d.program told copy))
 unfolding call_sight call_fits agreed_after
 call_sight_is d copy entered func depth args told =
     ap (where_so (may_enter d.plan func depth))
@@ -84,17 +87,24 @@ answer_copy_is d s q results deaths news = other_order (is_answered q s.entered 
 
 -- ---- what is opened
 
-opens_where : (b : Bool) (t : Tree) (rest func : ℕ) (entered : List ℕ) (view : List Cell) (copy : Memory)
-    → when_fits b (split.Runs t rest func entered view copy) ≡ opens_as t func (opening_of rest entered (only_if b (sight_of view copy)))
-opens_where true t rest func entered view copy = refl
-opens_where false t rest func entered view copy = refl
+opens_where : (b : Bool) (t : Tree) (rest func : ℕ) (entered : List ℕ) (view : List Cell) (copy : Memory) (below : List split.Down)
+    → when_fits b (split.Runs t rest func entered view copy below) ≡ opens_as t func below (opening_of rest entered (only_if b (sight_of view copy)))
+opens_where true t rest func entered view copy below = refl
+opens_where false t rest func entered view copy below = refl
 
-answers_where : (b : Bool) (t : Tree) (d : Driver) (s : State) (q : Question) (left : ℕ) (deaths : List ℕ) (news : List New) (copy : Memory)
-    → when_fits b (split.Runs t left s.func (entered_behind q.service deaths news s.entered) (grown d s.func copy news s.view) copy)
-    ≡ opens_as t s.func (answered_by d s q left deaths news (only_if b copy))
+-- a callback is deeper
+opens_deeper : (deeper b : Bool) (t : Tree) (rest func : ℕ) (entered : List ℕ) (view : List Cell) (copy : Memory) (below : List split.Down)
+    → when_fits (deeper && b) (split.Runs t rest func entered view copy below)
+    ≡ opens_as t func below (chosen deeper (opening_of rest entered (only_if b (sight_of view copy))) (opening.Refuses 3))
+opens_deeper true b t rest func entered view copy below = opens_where b t rest func entered view copy below
+opens_deeper false b t rest func entered view copy below = refl
+
+answers_where : (b : Bool) (t : Tree) (d : Driver) (s : State) (q : Question) (left : ℕ) (deaths : List ℕ) (news : List New) (copy : Memory) (below : List split.Down)
+    → when_fits b (split.Runs t left s.func (entered_behind q.service deaths news s.entered) (grown d s.func copy news s.view) copy below)
+    ≡ opens_as t s.func below (answered_by d s q left deaths news (only_if b copy))
 unfolding grown_sight
-answers_where true t d s q left deaths news copy = refl
-answers_where false t d s q left deaths news copy = refl
+answers_where true t d s q left deaths news copy below = refl
+answers_where false t d s q left deaths news copy below = refl
 
 module _ (d : Driver) (fuel : ℕ) (s : State) where
   abbrev at : Awaits → State
@@ -103,23 +113,44 @@ module _ (d : Driver) (fuel : ℕ) (s : State) where
   abbrev goes : List Wire → Tree
   goes vs = child (bare d.user fuel (held_in d s)) vs
 
-  opens_with : (a : Awaits) (m : Message) → opened d (suc fuel) s.memory.agreed s.entered (user_of d fuel (at a)).work m ≡ opens_as (tree_for d fuel (at a) m) (func_for (at a) m) (opening_for d (at a) m)
+  abbrev waiting : List split.Down
+  waiting = downs_of d fuel s.below
+
+  -- a Call, with a downcall or nothing open
+  opens_call : (o : Option Downcall) (func depth rest : ℕ) (args : List Wire) (told : Told)
+      → split.begun d (suc fuel) s.memory.agreed s.entered (downs_of d fuel (suspended_by o s)) func depth rest args told
+      ≡ opens_as (started d.user (suc fuel) func args depth Tree.Idle) func (downs_of d fuel (suspended_by o s))
+      (chosen (calls_deeper o depth) (opening_of rest s.entered (call_sight d s.memory.agreed s.entered func depth args told)) (opening.Refuses 3))
+  unfolding call_fits
+  opens_call o func depth rest args told =
+      let t : Tree = started d.user (suc fuel) func args depth Tree.Idle in
+      let below : List split.Down = downs_of d fuel (suspended_by o s) in
+      ap (λ (b : Bool). when_fits (b && call_fits d s.memory.agreed s.entered [] func depth args told)
+      (split.Runs t rest func s.entered (cells_of_runs told.view) (agreed_after d.program told s.memory.agreed) below)) (deeper_is o)
+      ∙ opens_deeper (calls_deeper o depth) (call_fits d s.memory.agreed s.entered [] func depth args told) t rest func s.entered (cells_of_runs told.view) (agreed_after d.program told s.memory.agreed) below
+      ∙ ap (λ (x : Option Sight). opens_as t func below (chosen (calls_deeper o depth) (opening_of rest s.entered x) (opening.Refuses 3)))
+      (sym (call_sight_is d s.memory.agreed s.entered func depth args told))
+    where
+      deeper_is : (x : Option Downcall) → split.is_deeper (downs_of d fuel (suspended_by x s)) depth ≡ calls_deeper x depth
+      deeper_is None = refl
+      deeper_is (Some down) = refl
+
+  opens_with : (a : Awaits) (m : Message) → opened d (suc fuel) s.memory.agreed s.entered (user_of d fuel (at a)).work m
+      ≡ opens_as (tree_for d fuel (at a) m) (func_for (at a) m) (downs_of d fuel (below_for (at a) m)) (opening_for d (at a) m)
   unfolding opened opening_for
-  opens_with awaits.Nothing (message.Call func depth rest args told) =
-      let t : Tree = tree_for d fuel s (message.Call func depth rest args told) in
-      opens_where (call_fits d s.memory.agreed s.entered func depth args told) t rest func s.entered (cells_of_runs told.view) (agreed_after d.program told s.memory.agreed)
-      ∙ ap (λ (o : Option Sight). opens_as t func (opening_of rest s.entered o)) (sym (call_sight_is d s.memory.agreed s.entered func depth args told))
+  opens_with awaits.Nothing (message.Call func depth rest args told) = opens_call None func depth rest args told
   opens_with awaits.Nothing _ = refl
+  opens_with (awaits.Back f) (message.Call func depth rest args told) = opens_call (Some f) func depth rest args told
   opens_with (awaits.Back f) (message.Back rest v told) =
-      opens_where (back_fits d s.memory.agreed s.entered s.func f v told) (goes (v ∷ [])) rest s.func s.entered (cells_of_runs told.view) (agreed_after d.program told s.memory.agreed)
-      ∙ ap (λ (o : Option Sight). opens_as (goes (v ∷ [])) s.func (opening_of rest s.entered o)) (sym (back_sight_is d s.memory.agreed s.func s.entered f v told))
+      opens_where (back_fits d s.memory.agreed s.entered s.func f.func v told) (goes (v ∷ [])) rest s.func s.entered (cells_of_runs told.view) (agreed_after d.program told s.memory.agreed) waiting
+      ∙ ap (λ (o : Option Sight). opens_as (goes (v ∷ [])) s.func waiting (opening_of rest s.entered o)) (sym (back_sight_is d s.memory.agreed s.func s.entered f.func v told))
   opens_with (awaits.Back f) _ = refl
   opens_with (awaits.Answer q left) (message.Answer results deaths news) =
-      answers_where _ (goes results) d (at (awaits.Answer q left)) q left deaths news (renewed_copy d.program deaths news s.memory.agreed)
-      ∙ ap (λ (o : Option Memory). opens_as (goes results) s.func (answered_by d (at (awaits.Answer q left)) q left deaths news o)) (sym (answer_copy_is d (at (awaits.Answer q left)) q results deaths news))
+      answers_where _ (goes results) d (at (awaits.Answer q left)) q left deaths news (renewed_copy d.program deaths news s.memory.agreed) waiting
+      ∙ ap (λ (o : Option Memory). opens_as (goes results) s.func waiting (answered_by d (at (awaits.Answer q left)) q left deaths news o)) (sym (answer_copy_is d (at (awaits.Answer q left)) q results deaths news))
   opens_with (awaits.Answer q left) _ = refl
 
-  pub opens_is : (m : Message) → opened d (suc fuel) s.memory.agreed s.entered (user_of d fuel s).work m ≡ opens_as (tree_for d fuel s m) (func_for s m) (opening_for d s m)
+  pub opens_is : (m : Message) → opened d (suc fuel) s.memory.agreed s.entered (user_of d fuel s).work m ≡ opens_as (tree_for d fuel s m) (func_for s m) (downs_of d fuel (below_for s m)) (opening_for d s m)
   opens_is m = opens_with s.awaits m
 
 -- ---- the ticks of what is opened
@@ -132,6 +163,11 @@ rest_of rest entered (Some sight) turn e =
     rest_in : Opening → ℕ
     rest_in (opening.Refuses reason) = 0
     rest_in (opening.Goes t) = t.rest
+
+-- what a callback opens, where it is deeper
+pub deeper_goes : (deeper : Bool) (o : Opening) (turn : Turn) → chosen deeper o (opening.Refuses 3) ≡ opening.Goes turn → o ≡ opening.Goes turn
+deeper_goes true o turn e = e
+deeper_goes false o turn e = absurd (cc e)
 
 left_of : (d : Driver) (s : State) (q : Question) (left : ℕ) (deaths : List ℕ) (news : List New) (o : Option Memory) (turn : Turn) → answered_by d s q left deaths news o ≡ opening.Goes turn → turn.rest ≤ left + 0
 left_of d s q left deaths news None turn e = absurd (cc e)
@@ -147,7 +183,9 @@ module _ (d : Driver) (s : State) (turn : Turn) where
   unfolding opening_for
   rest_with awaits.Nothing (message.Call func depth rest args told) e = rest_of rest s.entered (call_sight d s.memory.agreed s.entered func depth args told) turn e
   rest_with awaits.Nothing _ e = absurd (cc e)
-  rest_with (awaits.Back f) (message.Back rest v told) e = rest_of rest s.entered (back_sight d s.memory.agreed s.func s.entered f v told) turn e
+  rest_with (awaits.Back f) (message.Call func depth rest args told) e =
+      rest_of rest s.entered (call_sight d s.memory.agreed s.entered func depth args told) turn (deeper_goes (calls_deeper (Some f) depth) _ turn e)
+  rest_with (awaits.Back f) (message.Back rest v told) e = rest_of rest s.entered (back_sight d s.memory.agreed s.func s.entered f.func v told) turn e
   rest_with (awaits.Back f) _ e = absurd (cc e)
   rest_with (awaits.Answer q left) (message.Answer results deaths news) e =
       left_of d (record s { awaits = awaits.Answer q left }) q left deaths news (answer_copy d (record s { awaits = awaits.Answer q left }) q results deaths news) turn e

@@ -1,5 +1,5 @@
 -- A machine that is made ready holds what a message runs.
-use Rattle.std.proofs.Common.{◌≡◌, ℕ, suc, ◌+◌, ◌≤◌, Bool, true, false, ◌&&◌, nat_le, List, [], ◌∷◌, length, Option, Some, slice_get, refl, sym, ◌∙◌, ap, subst, leb-true, arith}
+use Rattle.std.proofs.Common.{◌≡◌, ℕ, suc, ◌+◌, ◌≤◌, Bool, true, false, ◌&&◌, nat_le, List, [], ◌∷◌, length, Option, refl, sym, ◌∙◌, ap, subst, leb-true, arith}
 use Rattle.mdr_core.specs.declared.plan.Plan.{Plan}
 use Rattle.mdr_core.specs.declared.program.Program.{Program}
 use Rattle.mdr_events.specs.declared.event.Event.{Event}
@@ -14,24 +14,23 @@ use Rattle.mdr_exec.specs.Halves.{side_in}
 use Rattle.mdr_exec.specs.Holding.{FitQuestion, held_of, waits}
 use Rattle.mdr_exec.proofs.ReadyLaws.{answers_fit, answers_wait, value_fits, value_waits}
 use Rattle.mdr_meaning.specs.declared.wire.Wire.{Wire}
-use Rattle.mdr_core.specs.declared.code.Stmt.{Stmt}
-use Rattle.mdr_core.specs.declared.program.Func.{Func}
 use Rattle.mdr_core.specs.declared.value.Value.{Value}
 use Rattle.mdr_core.specs.Layout.{chosen}
 use Rattle.mdr_core.specs.Services.{service_numbered}
 use Rattle.mdr_events.specs.Values.{wires_of}
 use Rattle.mdr_meaning.specs.declared.shape.Shape64.{Shape64}
-use Rattle.mdr_meaning.specs.Bodies.{body_by, body_from, body_of, started}
+use Rattle.mdr_meaning.specs.Bodies.{body_of, started}
 use Rattle.mdr_meaning.specs.Cut.{cut}
-use Rattle.mdr_meaning.specs.Sides.{Body, Side}
+use Rattle.mdr_meaning.specs.Sides.{Side}
 use Rattle.mdr_meaning.specs.Tree.{Asked, Tree}
+use Rattle.mdr_meaning.specs.Walk.{walk}
 use Rattle.mdr_model.specs.declared.message.Message.{Message}
 use Rattle.mdr_model.specs.declared.message.Message.TheVariants as message
 use Rattle.mdr_model.specs.declared.message.New.{New}
 use Rattle.mdr_model.specs.declared.message.Told.{Told}
 use Rattle.mdr_model.specs.Memory.{Memory}
 use Rattle.mdr_split.specs.Services.{are_different, are_given_by, are_new, is_new, leaving, results_fit, serials_of}
-use Rattle.mdr_split.specs.User.{objects_fit}
+use Rattle.mdr_split.specs.User.{guarded, objects_fit, replied_to}
 use Rattle.mdr_user_memory.specs.Kept.{IsLived, Kept, LivesTo, past_in}
 use Rattle.mdr_user_memory.specs.Lived.{lived_by}
 use Rattle.mdr_user_memory.proofs.LivedLaws.{lived_same}
@@ -44,9 +43,10 @@ use Rattle.mdr_user_code.specs.declared.state.Awaits.TheVariants as awaits
 use Rattle.mdr_user_code.specs.declared.state.Question.{Question}
 use Rattle.mdr_user_code.specs.declared.state.State.{State}
 use Rattle.mdr_user_memory.specs.Copied.{Copied, copy_accesses}
-use Rattle.mdr_user_code.specs.Opening.{answer_by, answer_copy, answered_by, back_by, call_sight, downcall, func_for, is_answered, is_idle, may_enter, opening_for, opening_of, renewed, tree_for, where_so}
-use Rattle.mdr_user_code.specs.Replying.{IsResumed, IsStarted, Prepared, Proceeds, Resumed, RunReplies}
-use Rattle.mdr_user_code.specs.Standing.{IsFit, Opens, asked_of, held_in, opens_by}
+use Rattle.mdr_user_code.specs.Opening.{answer_by, answer_copy, answered_by, back_by, call_sight, calls_deeper, downcall, func_for, is_answered, may_enter, opening_for, opening_of, renewed, suspended_by, takes_call, tree_for, where_so}
+use Rattle.mdr_user_code.specs.Replying.{Begins, IsResumed, IsStarted, Prepared, Proceeds, Resumed, RunReplies}
+use Rattle.mdr_split.specs.Fuel.{cut_delivered}
+use Rattle.mdr_user_code.specs.Standing.{IsFit, Opens, asked_of, downs_of, held_in, opens_below, opens_by}
 use Rattle.mdr_user_code.specs.Tidings.{deaths_in, news_in}
 use Rattle.mdr_user_code.proofs.RunLaws.{cut_child}
 use Rattle.mdr_user_code.proofs.Sides.{user_body, user_is}
@@ -60,49 +60,68 @@ started_is program plan func depth args passed m0 m ready fit user same none is 
   ready = ready;
   by = λ f r less.
       let next : f + 1 ≡ suc f = omega arith in
-      is (driver_of program plan).user (user_body program plan fit func user) f r less
+      is (driver_of program plan).user (user_body program plan fit.halves func user) f r less
       ∙ ap (λ (t : Tree). cut r (started (driver_of program plan).user (f + 1) func passed depth t)) (none program (driver_of program plan).user f r)
       ∙ ap (λ (n : ℕ). cut r (started (driver_of program plan).user n func passed depth Tree.Idle)) next
       ∙ ap (λ (vs : List Wire). cut r (started (driver_of program plan).user (suc f) func vs depth Tree.Idle)) same;
 }
 
-pub prepared_call : (d : Driver) (s s' : State) (func depth rest : ℕ) (args passed : List Wire) (told : Told) → passed ≡ args → s'.memory ≡ s.memory → s'.func ≡ func → IsStarted d func passed depth s'.machine → Prepared d s (message.Call func depth rest args told) s'
-prepared_call d s s' func depth rest args passed told same stays named is = record {
-  memory = stays;
-  func = named;
-  ready = is.ready;
-  holds = λ f r less. is.by f r less ∙ ap (λ (vs : List Wire). cut r (started d.user (suc f) func vs depth Tree.Idle)) same;
+-- user code that waits for a downcall waits below
+suspended_waits : (d : Driver) (s : State) (a : Awaits) → opens_by a (held_in d s) → opens_below d s.below → opens_below d (suspended_by (downcall a) s)
+suspended_waits d s awaits.Nothing o below = tt
+suspended_waits d s (awaits.Back f) o below = (o, below)
+suspended_waits d s (awaits.Answer q left) o below = tt
+
+called : (d : Driver) (s s' : State) (func depth rest : ℕ) (args passed : List Wire) (told : Told) → passed ≡ args → Opens d s → Begins d func passed depth s s' → Prepared d s (message.Call func depth rest args told) s'
+called d s s' func depth rest args passed told same opens is = record {
+  memory = is.memory;
+  below = is.below;
+  waits = subst (opens_below d) (sym is.below) (suspended_waits d s s.awaits opens.0 opens.1);
+  func = is.named;
+  ready = is.started.ready;
+  holds = λ f r less. is.started.by f r less ∙ ap (λ (vs : List Wire). cut r (started d.user (suc f) func vs depth Tree.Idle)) same;
 }
+
+pub prepared_call : (d : Driver) (s s' : State) (m : Message) (func depth rest : ℕ) (args passed : List Wire) (told : Told) → m ≡ message.Call func depth rest args told → passed ≡ args → Opens d s
+    → Begins d func passed depth s s' → Prepared d s m s'
+prepared_call d s s' m func depth rest args passed told same given opens is =
+    subst (λ x. Prepared d s x s') (sym same) (called d s s' func depth rest args passed told given opens is)
 
 resumed : (d : Driver) (s s' : State) (results : List Wire) → IsResumed results s.machine s'.machine → (f r : ℕ) → tree d.user f (held_in d s') r ≡ cut r (child (bare d.user f (held_in d s)) results)
 unfolding tree
 resumed d s s' results is f r = is.by d.program d.user f r ∙ sym (cut_child r (bare d.user f (held_in d s)) results)
 
-pub prepared_back : (d : Driver) (s s' : State) (m : Message) (rest : ℕ) (v : Wire) (told : Told) → is_started (held_in d s).items ≡ true → m ≡ message.Back rest v told → Resumed (v ∷ []) s s' → Prepared d s m s'
-prepared_back d s s' m rest v told started same is =
-    let p : Prepared d s (message.Back rest v told) s' = record { memory = is.memory; func = is.func; holds = λ f r less. resumed d s s' (v ∷ []) is.machine f r; ready = is.machine.ready d.program started } in
+pub prepared_back : (d : Driver) (s s' : State) (m : Message) (rest : ℕ) (v : Wire) (told : Told) → opens_below d s.below → is_started (held_in d s).items ≡ true → m ≡ message.Back rest v told → Resumed (v ∷ []) s s' → Prepared d s m s'
+prepared_back d s s' m rest v told waiting started same is =
+    let p : Prepared d s (message.Back rest v told) s' = record {
+      memory = is.memory;
+      func = is.func;
+      below = is.below;
+      waits = subst (opens_below d) (sym is.below) waiting;
+      holds = λ f r less. resumed d s s' (v ∷ []) is.machine f r;
+      ready = is.machine.ready d.program started;
+    } in
     subst (λ x. Prepared d s x s') (sym same) p
 
-pub prepared_answer : (d : Driver) (s s' : State) (m : Message) (results passed : List Wire) (deaths : List ℕ) (news : List New) → is_started (held_in d s).items ≡ true → m ≡ message.Answer results deaths news → passed ≡ results → Resumed passed s s' → Prepared d s m s'
-prepared_answer d s s' m results passed deaths news started same given is =
+pub prepared_answer : (d : Driver) (s s' : State) (m : Message) (results passed : List Wire) (deaths : List ℕ) (news : List New) → opens_below d s.below → is_started (held_in d s).items ≡ true → m ≡ message.Answer results deaths news → passed ≡ results → Resumed passed s s'
+    → Prepared d s m s'
+prepared_answer d s s' m results passed deaths news waiting started same given is =
     let p : Prepared d s (message.Answer results deaths news) s' =
-    record { memory = is.memory; func = is.func; holds = λ f r less. resumed d s s' passed is.machine f r ∙ ap (λ (vs : List Wire). cut r (child (bare d.user f (held_in d s)) vs)) given; ready = is.machine.ready d.program started } in
+    record { memory = is.memory; func = is.func; below = is.below; waits = subst (opens_below d) (sym is.below) waiting; holds = λ f r less. resumed d s s' passed is.machine f r ∙ ap (λ (vs : List Wire). cut r (child (bare d.user f (held_in d s)) vs)) given; ready = is.machine.ready d.program started } in
     subst (λ x. Prepared d s x s') (sym same) p
 
 -- user code goes on, behind a state that holds the message's copy
 pub proceeds : (d : Driver) (s s1 s2 s' : State) (k : Kept) (m : Message) (turn : Turn) (reply : Message) → Prepared d s m s1 → s2 ≡ record s1 { memory = k; entered = turn.entered } → k.agreed ≡ turn.sight.copy
-    → RunReplies d (held_in d s2) s2.func s2.entered turn.rest turn.sight.view s2.memory.agreed reply s' → LivesTo (lived_by d.program (deaths_in m) (news_in m)) s1.memory k
+    → RunReplies d s2 turn.rest turn.sight.view reply s' → LivesTo (lived_by d.program (deaths_in m) (news_in m)) s1.memory k
     → past_in s'.memory ≡ past_in s2.memory → Proceeds d s m turn reply s'
 proceeds d s s1 s2 s' k m turn reply p same copy run lived past =
-    let q : RunReplies d (held_in d s1) s1.func turn.entered turn.rest turn.sight.view k.agreed reply s' =
-    subst (λ (x : State). RunReplies d (held_in d x) x.func x.entered turn.rest turn.sight.view x.memory.agreed reply s') same run in
-    let r : RunReplies d (held_in d s1) (func_for s m) turn.entered turn.rest turn.sight.view turn.sight.copy reply s' =
-    subst (λ (f : ℕ). RunReplies d (held_in d s1) f turn.entered turn.rest turn.sight.view turn.sight.copy reply s') p.func
-    (subst (λ (a : Memory). RunReplies d (held_in d s1) s1.func turn.entered turn.rest turn.sight.view a reply s') copy q) in
+    let r : RunReplies d (record s1 { memory = k; entered = turn.entered }) turn.rest turn.sight.view reply s' = subst (λ (x : State). RunReplies d x turn.rest turn.sight.view reply s') same run in
     record {
       kept = r.kept;
       opens = r.opens;
-      by = λ fuel more fits. r.by fuel more (tree_for d fuel s m) fits (p.holds fuel (turn.rest + more) fits);
+      by = λ fuel more fits.
+          sym (λ i. cut_delivered more (replied_to (p.func i) turn.entered turn.sight.view turn.rest (copy i) (downs_of d fuel (p.below i)) (walk (guarded turn.sight.view) turn.rest (tree_for d fuel s m) (copy i))))
+          ∙ r.by fuel more (tree_for d fuel s m) fits (p.holds fuel (turn.rest + more) fits);
       lived = λ l h.
           lived_same s'.memory k (past ∙ ap (λ (x : State). past_in x.memory) same) (lived l (subst (λ (x : Kept). IsLived l x) (sym p.memory) h));
     }
@@ -113,11 +132,7 @@ pub ran_user : (program : Program) (plan : Plan) → IsFit plan program → (hal
     → RanTo copy_accesses (driver_of program plan).user (held_of program m) c ticks e (held_of program m') c' left
 unfolding held_of
 ran_user program plan fit halves are m m' c c' ticks e left ran =
-    subst (λ s. RanTo copy_accesses s (held_of program m) c ticks e (held_of program m') c' left) (ap (λ hs. side_in which.User hs program) are ∙ user_is program plan fit) ran
-
-pub its_body : (program : Program) (func : ℕ) (f : Func) (body : List Stmt) → slice_get program.funcs func ≡ Some f → f.body ≡ Some body → (x : Body) × (body_of program func ≡ Some x)
-unfolding body_of
-its_body program func f body there has = (_, ap body_from there ∙ ap (body_by f) has)
+    subst (λ s. RanTo copy_accesses s (held_of program m) c ticks e (held_of program m') c' left) (ap (λ hs. side_in which.User hs program) are ∙ user_is program plan fit.halves) ran
 
 -- ---- a message that was accepted
 
@@ -125,15 +140,17 @@ its_body program func f body there has = (_, ap body_from there ∙ ap (body_by 
 pub not_accepted : (d : Driver) (s : State) (m m' : Message) (turn : Turn) → m ≡ m' → opening_for d s m' ≡ opening.Refuses 2 → opening_for d s m ≡ opening.Goes turn → ⊥
 not_accepted d s m m' turn same refused goes = cc (ap (opening_for d s) same, refused, goes)
 
-called_where : (idle may : Bool) (rest : ℕ) (entered : List ℕ) (sight : Option Sight) (turn : Turn) → chosen idle (opening_of rest entered (where_so may sight)) (opening.Refuses 2) ≡ opening.Goes turn → may ≡ true
-called_where true true rest entered sight turn h = refl
-called_where true false rest entered sight turn h = absurd (cc h)
-called_where false may rest entered sight turn h = absurd (cc h)
+called_where : (taken deeper may : Bool) (rest : ℕ) (entered : List ℕ) (sight : Option Sight) (turn : Turn)
+    → chosen taken (chosen deeper (opening_of rest entered (where_so may sight)) (opening.Refuses 3)) (opening.Refuses 2) ≡ opening.Goes turn → may ≡ true
+called_where true true true rest entered sight turn h = refl
+called_where true true false rest entered sight turn h = absurd (cc h)
+called_where true false may rest entered sight turn h = absurd (cc h)
+called_where false deeper may rest entered sight turn h = absurd (cc h)
 
 called_so : (d : Driver) (s : State) (m : Message) (func depth rest : ℕ) (args : List Wire) (told : Told) (turn : Turn) → m ≡ message.Call func depth rest args told → opening_for d s m ≡ opening.Goes turn → may_enter d.plan func depth ≡ true
 unfolding opening_for call_sight
 called_so d s m func depth rest args told turn same goes =
-    called_where (is_idle s.awaits) (may_enter d.plan func depth) rest s.entered _ turn (sym (ap (opening_for d s) same) ∙ goes)
+    called_where (takes_call s.awaits) (calls_deeper (downcall s.awaits) depth) (may_enter d.plan func depth) rest s.entered _ turn (sym (ap (opening_for d s) same) ∙ goes)
 
 left_holds : (x y : Bool) → x && y ≡ true → x ≡ true
 left_holds true y h = refl
@@ -153,12 +170,12 @@ called_shallow d s m func depth rest args told turn same goes = leb-true depth 2
 -- the end of a call across is awaited
 back_where : (d : Driver) (s : State) (a : Awaits) (rest : ℕ) (v : Wire) (told : Told) (turn : Turn) (h : Held) → back_by d s (downcall a) rest v told ≡ opening.Goes turn → opens_by a h → IsOpen takes_value h
 back_where d s awaits.Nothing rest v told turn h goes o = absurd (cc goes)
-back_where d s (awaits.Back func) rest v told turn h goes o = o
+back_where d s (awaits.Back down) rest v told turn h goes o = o
 back_where d s (awaits.Answer question left) rest v told turn h goes o = absurd (cc goes)
 
 pub back_awaited : (d : Driver) (s : State) (m : Message) (rest : ℕ) (v : Wire) (told : Told) (turn : Turn) → m ≡ message.Back rest v told → opening_for d s m ≡ opening.Goes turn → Opens d s → IsOpen takes_value (held_in d s)
 unfolding opening_for
-back_awaited d s m rest v told turn same goes o = back_where d s s.awaits rest v told turn (held_in d s) (sym (ap (opening_for d s) same) ∙ goes) o
+back_awaited d s m rest v told turn same goes o = back_where d s s.awaits rest v told turn (held_in d s) (sym (ap (opening_for d s) same) ∙ goes) o.0
 
 -- answers are awaited, and these are as many
 pub record AreAwaited (h : Held) (results : List Wire) : Type 0 where
@@ -185,7 +202,7 @@ answered_where d s q left deaths news turn false copy h = absurd (cc h)
 answer_where : (d : Driver) (s : State) (a : Awaits) (results : List Wire) (deaths : List ℕ) (news : List New) (turn : Turn) (h : Held) → answer_by d s a results deaths news ≡ opening.Goes turn → opens_by a h → AreAwaited h results
 unfolding answer_copy
 answer_where d s awaits.Nothing results deaths news turn h goes o = absurd (cc goes)
-answer_where d s (awaits.Back func) results deaths news turn h goes o = absurd (cc goes)
+answer_where d s (awaits.Back down) results deaths news turn h goes o = absurd (cc goes)
 answer_where d s (awaits.Answer q left) results deaths news turn h goes o = record {
   asked = asked_of q;
   waiting = o;
@@ -197,7 +214,7 @@ answer_where d s (awaits.Answer q left) results deaths news turn h goes o = reco
 pub answer_awaited : (d : Driver) (s : State) (m : Message) (results : List Wire) (deaths : List ℕ) (news : List New) (turn : Turn) → m ≡ message.Answer results deaths news → opening_for d s m ≡ opening.Goes turn → Opens d s
     → AreAwaited (held_in d s) results
 unfolding opening_for
-answer_awaited d s m results deaths news turn same goes o = answer_where d s s.awaits results deaths news turn (held_in d s) (sym (ap (opening_for d s) same) ∙ goes) o
+answer_awaited d s m results deaths news turn same goes o = answer_where d s s.awaits results deaths news turn (held_in d s) (sym (ap (opening_for d s) same) ∙ goes) o.0
 
 -- so they fit the machine
 pub back_waits : (d : Driver) (s : State) → IsOpen takes_value (held_in d s) → waits s.machine.front ≡ true

@@ -1,5 +1,5 @@
 -- What a machine's run over the copy comes to is what the definition replies.
-use Rattle.std.proofs.Common.{◌≡◌, ℕ, zero, suc, ◌+◌, ◌-◌, ◌≤◌, List, [], ◌∷◌, refl, sym, ◌∙◌, ap, subst, arith}
+use Rattle.std.proofs.Common.{List, [], ap, arith, map, refl, subst, suc, sym, zero, ℕ, ◌+◌, ◌-◌, ◌∙◌, ◌∷◌, ◌≡◌, ◌≤◌}
 use mathlib.Core.Path.{fun_ext}
 use Rattle.mdr_core.specs.declared.stop.StopKind.TheVariants as stop
 use Rattle.mdr_events.specs.declared.event.Event.{Event}
@@ -30,17 +30,19 @@ use Rattle.mdr_model.specs.Agreement.{SerialsRise}
 use Rattle.mdr_model.specs.Copies.{changes, put_runs}
 use Rattle.mdr_model.specs.Memory.{Memory}
 use Rattle.mdr_model.specs.ReplyFaults.{stop_number}
-use Rattle.mdr_split.specs.User.{AwaitsAnswer, AwaitsBack, Delivered, User, guarded, replied, replied_to}
+use Rattle.mdr_split.specs.User.{AwaitsAnswer, AwaitsBack, Delivered, Down, Nothing, User, Work, guarded, replied, replied_to, resting}
 use Rattle.mdr_user_memory.specs.Kept.{Kept}
 use Rattle.mdr_user_memory.specs.Within.{IsLeft}
 use Rattle.mdr_user_memory.proofs.WithinLaws.{changes_give, walk_left, within_first}
 use Rattle.mdr_watched.specs.Driver.{Driver}
-use Rattle.mdr_user_code.specs.declared.state.Awaits.{Awaits}
 use Rattle.mdr_user_code.specs.declared.state.State.{State}
 use Rattle.mdr_user_memory.specs.Copied.{Copied, Past, copied, copy_accesses}
-use Rattle.mdr_user_code.specs.Replying.{IsSettled, RunReplies, awaits_as, told_as}
-use Rattle.mdr_user_code.specs.Standing.{cut_delivered, held_in, kept_by, opens_by, replies_so, user_of, work_by}
+use Rattle.mdr_user_code.specs.Replying.{IsSettled, RunReplies, state_behind, told_as}
+use Rattle.mdr_user_code.specs.Standing.{Opens, downs_of, held_in, kept_by, opens_below, replies_so}
 use Rattle.mdr_user_code.proofs.CopiedWalks.{copied_walked, walks}
+use Rattle.mdr_split.specs.Fuel.{cut_delivered, cut_down, cut_work}
+use Rattle.mdr_split.proofs.FuelLaws.{replied_cut}
+use Rattle.mdr_user_code.proofs.BelowLaws.{rested_kept, rested_opens, rested_user}
 
 -- ---- what follows answers
 
@@ -66,38 +68,44 @@ goes_is : (side : Side) (f q r : ℕ) (h : Held) (vs : List Wire) → q ≤ r �
 unfolding tree
 goes_is side f q r h vs fewer = ap (cut q) (sym (cut_child r (bare side f h) vs)) ∙ cut_cut q r fewer (child (bare side f h) vs)
 
--- ---- replies up to later ticks
-
--- a reply and what is held after it depend on what was reached up to a cut
-replied_cut : (r stub : ℕ) (entered : List ℕ) (view : List Cell) (rest : ℕ) (copy m : Memory) (left : ℕ) (x : Reached)
-    → cut_delivered r (replied stub entered view rest copy m left (cut_reached (left + r) x)) ≡ cut_delivered r (replied stub entered view rest copy m left x)
-unfolding replied
-replied_cut r stub entered view rest copy m left Reached.Idles = refl
-replied_cut r stub entered view rest copy m left (Reached.Opens k) = refl
-replied_cut r stub entered view rest copy m left (Reached.Ended v t) = refl
-replied_cut r stub entered view rest copy m left (Reached.Stopped kind at) = refl
-replied_cut r stub entered view rest copy m left (Reached.Needs at depth t) = refl
-replied_cut r stub entered view rest copy m left (Reached.Asks asked k) =
-    let d : Delivered = replied stub entered view rest copy m left (Reached.Asks asked k) in
-    ap (λ (k' : List Wire → Tree). record { reply = d.reply; user = record { agreed = d.user.agreed; entered = entered; work = AwaitsAnswer stub asked view left k' } })
-    (fun_ext (λ vs. cut_cut (r + left) (left + r) (omega arith) (k vs)))
-replied_cut r stub entered view rest copy m left (Reached.Crosses at func args depth k) =
-    let d : Delivered = replied stub entered view rest copy m left (Reached.Crosses at func args depth k) in
-    ap (λ (k' : Wire → Tree). record { reply = d.reply; user = record { agreed = d.user.agreed; entered = entered; work = AwaitsBack stub func view k' } })
-    (fun_ext (λ v. cut_cut r (left + r) (omega arith) (k v)))
-
--- the state behind an event, with whatever memory
-abbrev settled : State → (rest : ℕ) → (copy : Memory) → Copied → Event → State
-settled s rest copy c e = record s { memory = record s.memory { agreed = put_runs (changes c.view copy c.memory) copy }; view = c.view; awaits = awaits_as (rest - s.machine.used) e }
-
 -- ---- a run
 
-module _ (d : Driver) (h : Held) (s : State) (past : Past) (view : List Cell) (rest : ℕ) (copy : Memory) (c : Copied) where
-  abbrev left : ℕ
-  left = rest - s.machine.used
+module _ (d : Driver) (s : State) (m : Machine) (past : Past) (view : List Cell) (rest : ℕ) (c : Copied) (k : Kept)
+    (agreed : k.agreed ≡ put_runs (changes c.view s.memory.agreed c.memory) s.memory.agreed) where
+  abbrev copy : Memory
+  copy = s.memory.agreed
 
-  abbrev answer_of : (more : ℕ) → Walked Copied → Delivered
-  answer_of more w = cut_delivered more (replied s.func s.entered w.memory.view rest copy w.memory.memory w.left w.reached)
+  -- what is held before, and behind
+  abbrev h : Held
+  h = held_in d s
+
+  abbrev h' : Held
+  h' = held_of d.program m
+
+  abbrev left : ℕ
+  left = rest - m.used
+
+  abbrev downs : ℕ → List Down
+  downs fuel = downs_of d fuel s.below
+
+  abbrev told : Event → Message
+  told e = told_as (rest - left) c.memory (changes c.view copy c.memory) e
+
+  -- the state behind an event
+  abbrev before : State
+  before = record s { machine = m; memory = k; view = c.view }
+
+  abbrev settled : Event → State
+  settled e = state_behind left e before
+
+  abbrev stands : Message → Memory → Work → Delivered
+  stands reply a work = record { reply = reply; user = record { agreed = a; entered = s.entered; work = work } }
+
+  both_agree : (reply : Message) (work : Work) → stands reply (put_runs (changes c.view copy c.memory) copy) work ≡ stands reply k.agreed work
+  both_agree reply work = ap (λ (a : Memory). stands reply a work) (sym agreed)
+
+  abbrev answer_of : (fuel more : ℕ) → Walked Copied → Delivered
+  answer_of fuel more w = cut_delivered more (replied s.func s.entered w.memory.view rest copy w.memory.memory (downs fuel) w.left w.reached)
 
   abbrev reached_by : Tree → Walked Memory
   reached_by t = walk (guarded view) rest t copy
@@ -106,8 +114,8 @@ module _ (d : Driver) (h : Held) (s : State) (past : Past) (view : List Cell) (r
   cut_walked r w = walked (cut_reached (w.left + r) w.reached) w.memory w.left
 
   -- the walk of a tree that the held work is
-  walk_is : (fuel more : ℕ) (t : Tree) (e : Came) → rest + more ≤ fuel → tree d.user fuel h (rest + more) ≡ cut (rest + more) t → RunsTo copy_accesses d.user h (copied past copy view copy) rest e (held_in d s) c left
-      → copied_walked past copy view (cut_walked more (reached_by t)) ≡ after copy_accesses d.user fuel e (held_in d s) c left (left + more)
+  walk_is : (fuel more : ℕ) (t : Tree) (e : Came) → rest + more ≤ fuel → tree d.user fuel h (rest + more) ≡ cut (rest + more) t → RunsTo copy_accesses d.user h (copied past copy view copy) rest e h' c left
+      → copied_walked past copy view (cut_walked more (reached_by t)) ≡ after copy_accesses d.user fuel e h' c left (left + more)
   walk_is fuel more t e fits same ran =
       let none : rest ≡ rest + 0 = omega arith in
       let all : left + 0 ≡ left = omega arith in
@@ -116,61 +124,70 @@ module _ (d : Driver) (h : Held) (s : State) (past : Past) (view : List Cell) (r
       ∙ ap (λ (x : Tree). walk copy_accesses rest x (copied past copy view copy)) (sym same)
       ∙ ap (λ (n : ℕ). walk copy_accesses n (tree d.user fuel h (rest + more)) (copied past copy view copy)) none
       ∙ ran.by fuel 0 more fits
-      ∙ ap (λ (n : ℕ). after copy_accesses d.user fuel e (held_in d s) c n (left + more)) all
+      ∙ ap (λ (n : ℕ). after copy_accesses d.user fuel e h' c n (left + more)) all
 
-  replied_at : (fuel more : ℕ) (t : Tree) (e : Came) → rest + more ≤ fuel → tree d.user fuel h (rest + more) ≡ cut (rest + more) t → RunsTo copy_accesses d.user h (copied past copy view copy) rest e (held_in d s) c left
-      → cut_delivered more (replied_to s.func s.entered view rest copy (reached_by t)) ≡ answer_of more (after copy_accesses d.user fuel e (held_in d s) c left (left + more))
+  replied_at : (fuel more : ℕ) (t : Tree) (e : Came) → rest + more ≤ fuel → tree d.user fuel h (rest + more) ≡ cut (rest + more) t → RunsTo copy_accesses d.user h (copied past copy view copy) rest e h' c left
+      → cut_delivered more (replied_to s.func s.entered view rest copy (downs fuel) (reached_by t)) ≡ answer_of fuel more (after copy_accesses d.user fuel e h' c left (left + more))
   replied_at fuel more t e fits same ran =
-      sym (replied_cut more s.func s.entered view rest copy (reached_by t).memory (reached_by t).left (reached_by t).reached)
-      ∙ ap (answer_of more) (walk_is fuel more t e fits same ran)
+      sym (replied_cut more s.func s.entered view rest copy (reached_by t).memory (downs fuel) (reached_by t).left (reached_by t).reached)
+      ∙ ap (answer_of fuel more) (walk_is fuel more t e fits same ran)
 
-  replies : (e : Event) → RanTo copy_accesses d.user h (copied past copy view copy) rest e (held_in d s) c left → (fuel more : ℕ) (t : Tree) → rest + more ≤ fuel → tree d.user fuel h (rest + more) ≡ cut (rest + more) t
-      → cut_delivered more (replied_to s.func s.entered view rest copy (reached_by t)) ≡ cut_delivered more (replies_so d fuel (told_as (rest - left) c.memory (changes c.view copy c.memory) e) (settled s rest copy c e))
+  replies : (e : Event) → RanTo copy_accesses d.user h (copied past copy view copy) rest e h' c left → (fuel more : ℕ) (t : Tree) → rest + more ≤ fuel → tree d.user fuel h (rest + more) ≡ cut (rest + more) t
+      → cut_delivered more (replied_to s.func s.entered view rest copy (downs fuel) (reached_by t)) ≡ cut_delivered more (replies_so d fuel (told e) (settled e))
   unfolding replied walk
-  replies (event.Done v) ran fuel more t fits same = replied_at fuel more t (came.Ended (wire_of v)) fits same ran
-  replies (event.Stop kind at) ran fuel more t fits same = replied_at fuel more t (came.Stopped kind at) fits same ran
+  replies (event.Done v) ran fuel more t fits same =
+      replied_at fuel more t (came.Ended (wire_of v)) fits same ran
+      ∙ both_agree (told (event.Done v)) (cut_work more (resting (downs fuel)))
+      ∙ ap (λ (u : User). cut_delivered more (record { reply = told (event.Done v); user = u })) (sym (rested_user d fuel s.below before))
+  replies (event.Stop kind at) ran fuel more t fits same =
+      replied_at fuel more t (came.Stopped kind at) fits same ran ∙ both_agree (told (event.Stop kind at)) Nothing
   replies (event.Service q) ran fuel more t fits same =
-      let x : Delivered = replied s.func s.entered c.view rest copy c.memory left (Reached.Asks (asked_as q) (child (tree d.user fuel (held_in d s) (left + more)))) in
+      let goes : List Wire → Tree = child (bare d.user fuel h') in
+      let work : (List Wire → Tree) → Work = λ g. AwaitsAnswer s.func (asked_as q) c.view left g (map (cut_down more) (downs fuel)) in
       replied_at fuel more t (came.Asks (asked_as q)) fits same ran
-      ∙ ap (λ (k : List Wire → Tree). record { reply = x.reply; user = record { agreed = x.user.agreed; entered = s.entered; work = AwaitsAnswer s.func (asked_as q) c.view left k } })
-      (fun_ext (λ vs. goes_is d.user fuel (more + left) (left + more) (held_in d s) vs (omega arith)))
+      ∙ ap (λ (g : List Wire → Tree). stands (told (event.Service q)) (put_runs (changes c.view copy c.memory) copy) (work g))
+      (fun_ext (λ vs. goes_is d.user fuel (more + left) (left + more) h' vs (omega arith)))
+      ∙ both_agree (told (event.Service q)) (work (λ vs. cut (more + left) (goes vs)))
   replies (event.Cross call) ran fuel more t fits same =
-      let x : Delivered = replied s.func s.entered c.view rest copy c.memory left (Reached.Crosses call.at call.func (wires_of call.args) call.depth (λ v. child (tree d.user fuel (held_in d s) (left + more)) (v ∷ []))) in
+      let goes : List Wire → Tree = child (bare d.user fuel h') in
+      let work : (Wire → Tree) → Work = λ g. AwaitsBack (record { stub = s.func; func = call.func; depth = call.depth; goes = g }) (map (cut_down more) (downs fuel)) in
       replied_at fuel more t (came.Crosses call.at call.func (wires_of call.args) call.depth) fits same ran
-      ∙ ap (λ (k : Wire → Tree). record { reply = x.reply; user = record { agreed = x.user.agreed; entered = s.entered; work = AwaitsBack s.func call.func c.view k } })
-      (fun_ext (λ v. goes_is d.user fuel more (left + more) (held_in d s) (v ∷ []) (omega arith)))
+      ∙ ap (λ (g : Wire → Tree). stands (told (event.Cross call)) (put_runs (changes c.view copy c.memory) copy) (work g))
+      (fun_ext (λ v. goes_is d.user fuel more (left + more) h' (v ∷ []) (omega arith)))
+      ∙ both_agree (told (event.Cross call)) (work (λ v. cut more (goes (v ∷ []))))
   replies (event.TicksOut at) ran fuel more t fits same =
       let w = ran.2.by fuel (left + more) in
       replied_at fuel more t came.Goes fits same ran.1
-      ∙ ap (λ (x : Tree). answer_of more (walk copy_accesses left x c)) w.1
-      ∙ ap (λ (n : ℕ). answer_of more (walk copy_accesses n (Tree.Tick at (held_in d s).frame.here.depth w.0) c)) ran.0
-      ∙ ap (λ (n : ℕ). cut_delivered more (replies_so d fuel (message.Stop (rest - n) (stop_number stop.Ticks) at (changes c.view copy c.memory)) (settled s rest copy c (event.TicksOut at)))) (sym ran.0)
+      ∙ ap (λ (x : Tree). answer_of fuel more (walk copy_accesses left x c)) w.1
+      ∙ ap (λ (n : ℕ). answer_of fuel more (walk copy_accesses n (Tree.Tick at h'.frame.here.depth w.0) c)) ran.0
+      ∙ ap (λ (n : ℕ). stands (message.Stop (rest - n) (stop_number stop.Ticks) at (changes c.view copy c.memory)) (put_runs (changes c.view copy c.memory) copy) Nothing) (sym ran.0)
+      ∙ both_agree (told (event.TicksOut at)) Nothing
 
-  kept_is : (e : Event) → kept_by (awaits_as left e) ≤ rest
-  kept_is (event.Done v) = omega arith
+  kept_is : (e : Event) → kept_by (settled e).awaits ≤ rest
+  kept_is (event.Done v) = let none = rested_kept s.below before in omega (arith, none)
   kept_is (event.Stop kind at) = omega arith
   kept_is (event.Service q) = omega arith
   kept_is (event.Cross call) = omega arith
   kept_is (event.TicksOut at) = omega arith
 
-  -- the machine waits for what is awaited
-  opens_behind : (e : Event) → LeavesAt e (held_in d s) → opens_by (awaits_as left e) (held_in d s)
-  opens_behind (event.Done v) o = tt
-  opens_behind (event.Stop kind at) o = tt
-  opens_behind (event.Service q) o = o
-  opens_behind (event.Cross call) o = o
-  opens_behind (event.TicksOut at) o = tt
+  -- the machine waits for what is awaited, and so do those below
+  opens_behind : (e : Event) → LeavesAt e h' → opens_below d s.below → Opens d (settled e)
+  opens_behind (event.Done v) o below = rested_opens d s.below before below
+  opens_behind (event.Stop kind at) o below = (tt, tt)
+  opens_behind (event.Service q) o below = (o, below)
+  opens_behind (event.Cross call) o below = (o, below)
+  opens_behind (event.TicksOut at) o below = (tt, tt)
 
-  pub run_replies : (e : Event) (reply : Message) → IsReady h → s.machine.used ≤ rest → RanTo copy_accesses d.user h (copied past copy view copy) rest e (held_in d s) c left → reply ≡ told_as s.machine.used c.memory (changes c.view copy c.memory) e
-      → RunReplies d h s.func s.entered rest view copy reply (settled s rest copy c e)
-  run_replies e reply ready few ran is = record {
+  comes : (e : Event) (reply : Message) → IsReady h → m.used ≤ rest → RanTo copy_accesses d.user h (copied past copy view copy) rest e h' c left → reply ≡ told_as m.used c.memory (changes c.view copy c.memory) e
+      → opens_below d s.below → RunReplies d s rest view reply (settled e)
+  comes e reply ready few ran is below = record {
     kept = kept_is e;
-    opens = opens_behind e (ran_leaves copy_accesses d.user h (held_in d s) (copied past copy view copy) c rest e left ready ran);
+    opens = opens_behind e (ran_leaves copy_accesses d.user h h' (copied past copy view copy) c rest e left ready ran) below;
     by = λ fuel more t fits same.
-        let back : rest - left ≡ s.machine.used = omega (arith, few) in
+        let back : rest - left ≡ m.used = omega (arith, few) in
         replies e ran fuel more t fits same
-        ∙ ap (λ (n : ℕ). cut_delivered more (replies_so d fuel (told_as n c.memory (changes c.view copy c.memory) e) (settled s rest copy c e))) back
-        ∙ ap (λ (r : Message). cut_delivered more (replies_so d fuel r (settled s rest copy c e))) (sym is);
+        ∙ ap (λ (n : ℕ). cut_delivered more (replies_so d fuel (told_as n c.memory (changes c.view copy c.memory) e) (settled e))) back
+        ∙ ap (λ (r : Message). cut_delivered more (replies_so d fuel r (settled e))) (sym is);
   }
 
 -- ---- what a run leaves of memory
@@ -204,28 +221,17 @@ tells_all past copy view c rises l =
 
 -- ---- a message's run
 
-user_settled : (d : Driver) (fuel : ℕ) (s s' : State) (k : Kept) (m : Machine) (rest : ℕ) (copy : Memory) (c : Copied) (e : Event) → c.agreed ≡ copy → IsSettled (record s { memory = k; machine = m }) rest c e s'
-    → user_of d fuel s' ≡ user_of d fuel (settled (record s { machine = m }) rest copy c e)
-user_settled d fuel s s' k m rest copy c e same q =
-    let agreed : s'.memory.agreed ≡ put_runs (changes c.view copy c.memory) copy = q.agreed ∙ ap (λ (a : Memory). put_runs (changes c.view a c.memory) a) same in
-    λ i. record { agreed = agreed i; entered = q.entered i; work = work_by (q.awaits i) (q.func i) (q.view i) (child (bare d.user fuel (held_of d.program (q.machine i)))) }
-
-pub run_from : (d : Driver) (s s' : State) (k : Kept) (m : Machine) (past : Past) (view : List Cell) (rest : ℕ) (copy : Memory) (c0 c : Copied) (e : Event) (reply : Message) → IsReady (held_in d s) → c0 ≡ copied past copy view copy → SerialsRise copy → m.used ≤ rest
-    → RanTo copy_accesses d.user (held_in d s) c0 rest e (held_of d.program m) c (rest - m.used) → reply ≡ told_as m.used c.memory (changes c.view c.agreed c.memory) e → IsSettled (record s { memory = k; machine = m }) rest c e s'
-    → RunReplies d (held_in d s) s.func s.entered rest view copy reply s'
-run_from d s s' k m past view rest copy c0 c e reply ready begun rises few ran told is =
+pub run_from : (d : Driver) (s s' : State) (k : Kept) (m : Machine) (past : Past) (view : List Cell) (rest : ℕ) (c0 c : Copied) (e : Event) (reply : Message) → IsReady (held_in d s) → c0 ≡ copied past s.memory.agreed view s.memory.agreed
+    → SerialsRise s.memory.agreed → m.used ≤ rest → RanTo copy_accesses d.user (held_in d s) c0 rest e (held_of d.program m) c (rest - m.used) → reply ≡ told_as m.used c.memory (changes c.view c.agreed c.memory) e
+    → IsSettled (record s { memory = k; machine = m }) rest c e s' → opens_below d s.below → RunReplies d s rest view reply s'
+run_from d s s' k m past view rest c0 c e reply ready begun rises few ran told is below =
+    let copy : Memory = s.memory.agreed in
     let r : RanTo copy_accesses d.user (held_in d s) (copied past copy view copy) rest e (held_of d.program m) c (rest - m.used) =
     subst (λ (x : Copied). RanTo copy_accesses d.user (held_in d s) x rest e (held_of d.program m) c (rest - m.used)) begun ran in
     let l : IsLeft past copy view c = left_of_run d.user (held_in d s) (held_of d.program m) past copy view c rest (rest - m.used) rises e r in
     let told' : reply ≡ told_as m.used c.memory (changes c.view copy c.memory) e = told ∙ ap (λ (a : Memory). told_as m.used c.memory (changes c.view a c.memory) e) l.copy in
-    let rr : RunReplies d (held_in d s) s.func s.entered rest view copy reply (settled (record s { machine = m }) rest copy c e) = run_replies d (held_in d s) (record s { machine = m }) past view rest copy c e reply ready few r told' in
-    record {
-      kept = subst (λ (a : Awaits). kept_by a ≤ rest) (sym is.awaits) rr.kept;
-      opens = subst (λ (a : Awaits). opens_by a (held_in d s')) (sym is.awaits) (subst (λ (x : Machine). opens_by (awaits_as (rest - m.used) e) (held_of d.program x)) (sym is.machine) rr.opens);
-      by = λ fuel more t fits same.
-          rr.by fuel more t fits same
-          ∙ ap (λ (u : User). cut_delivered more (record { reply = reply; user = u })) (sym (user_settled d fuel s s' k m rest copy c e l.copy is));
-    }
+    let agreed : s'.memory.agreed ≡ put_runs (changes c.view copy c.memory) copy = is.agreed ∙ ap (λ (a : Memory). put_runs (changes c.view a c.memory) a) l.copy in
+    subst (RunReplies d s rest view reply) (sym is.behind) (comes d s m past view rest c s'.memory agreed e reply ready few r told' below)
 
 -- the code left what it ran on, and all that it left is told
 pub run_told : (d : Driver) (s : State) (m : Machine) (past : Past) (view : List Cell) (rest : ℕ) (copy : Memory) (c0 c : Copied) (e : Event) → c0 ≡ copied past copy view copy → SerialsRise copy

@@ -3,6 +3,7 @@ use Rattle.std.proofs.Common.{◌≡◌, ◌∙◌, ℕ, suc, Bool, true, false,
 use Rattle.std.specs.Prelude.{◌&&◌, is_none}
 use Rattle.std.specs.List.{list_all}
 use Rattle.std.proofs.lemmas.Bool.{and_parts}
+use Rattle.mdr_core.specs.declared.program.Program.{Program}
 use Rattle.mdr_core.specs.declared.refusal.RefuseKind.TheVariants as refusal
 use Rattle.mdr_meaning.specs.declared.wire.Wire.{Wire}
 use Rattle.mdr_meaning.specs.declared.wire.Wire.TheVariants as wire
@@ -14,11 +15,11 @@ use Rattle.mdr_model.specs.declared.message.New.{New}
 use Rattle.mdr_model.specs.declared.message.Run.{Run}
 use Rattle.mdr_model.specs.declared.message.SetRun.{SetRun}
 use Rattle.mdr_model.specs.declared.message.Told.{Told}
-use Rattle.mdr_model.specs.Copies.{CellValue, numbered, put_all, put_runs, values_of_runs}
+use Rattle.mdr_model.specs.Copies.{CellValue, numbered, put_all, put_runs, values_of_runs, without}
 use Rattle.mdr_model.specs.Faults.{is_known, set_run_of, unless}
 use Rattle.mdr_model.specs.Memory.{Memory, is_live, normal, normal_if}
 use Rattle.mdr_model.specs.Sets.{cells_of_runs, follows_maybe, is_in}
-use Rattle.mdr_model.specs.User.{lives_fit, renewed_copy}
+use Rattle.mdr_model.specs.User.{has_shape, lives_fit, may_come, renewed_copy}
 use Rattle.mdr_model.proofs.Accepted.{no_faults, or_none, unless_passes}
 use Rattle.mdr_split.specs.Fits.{Places, is_view}
 use Rattle.mdr_split.specs.Legal.{fits_cell, run_fault, runs_fault}
@@ -33,8 +34,9 @@ use Rattle.mdr_user_code.specs.declared.state.Awaits.{Awaits}
 use Rattle.mdr_user_code.specs.declared.state.Awaits.TheVariants as awaits
 use Rattle.mdr_user_code.specs.declared.state.Question.{Question}
 use Rattle.mdr_user_code.specs.declared.state.State.{State}
-use Rattle.mdr_user_code.specs.Opening.{and_then, answer_copy, answered_by, args_fit, back_sight, call_sight, called, grown_sight, is_answered, may_enter, only_if, opening_for, opening_of, renewed, result_fits, returned, shown, where_so}
+use Rattle.mdr_user_code.specs.Opening.{and_then, answer_copy, answered_by, args_fit, back_sight, call_sight, called, calls_deeper, grown_sight, is_answered, may_enter, only_if, opening_for, opening_of, renewed, result_fits, returned, shown, where_so}
 use Rattle.mdr_user_code.specs.Tidings.{TellsTo, deaths_in, news_in, runs_in}
+use Rattle.mdr_user_code.proofs.OpeningLaws.{deeper_goes}
 
 -- ---- values that are told
 
@@ -93,6 +95,22 @@ only_some {A} true v x e = (refl, same e)
     same : Some v ≡ Some x → v ≡ x
     same k = cc
 only_some false v x e = absurd (cc e)
+
+-- births that fit have shapes
+all_shaped : (program : Program) (copy : Memory) (news : List New) → list_all (may_come program copy) news ≡ true → list_all (has_shape program) news ≡ true
+all_shaped program copy [] h = refl
+all_shaped program copy (n ∷ news) h =
+    let each = and_parts (may_come program copy n) (list_all (may_come program copy) news) h in
+    let first = (and_parts _ _ each.0).1 in
+    let rest = all_shaped program copy news each.1 in
+    λ i. first i && rest i
+
+pub copy_shaped : (d : Driver) (s : State) (q : Question) (results : List Wire) (deaths : List ℕ) (news : List New) (copy : Memory) → answer_copy d s q results deaths news ≡ Some copy → list_all (has_shape d.program) news ≡ true
+unfolding answer_copy lives_fit
+copy_shaped d s q results deaths news copy e =
+    let one = where_some (is_answered q s.entered results deaths news) _ copy e in
+    let two = only_some (lives_fit d.program s.memory.agreed deaths news) _ copy one.1 in
+    all_shaped d.program (without deaths s.memory.agreed) news (and_parts _ _ (and_parts _ _ two.0).1).1
 
 -- deaths and births fit, and what is seen then
 pub record Seen (d : Driver) (copy : Memory) (told : Told) (sight : Sight) : Type 0 where
@@ -177,8 +195,12 @@ module _ (d : Driver) (s : State) (turn : Turn) where
       let q = call_seen d s.memory.agreed told turn.sight s.entered func depth args (sight_of rest s.entered (call_sight d s.memory.agreed s.entered func depth args told) turn e) in
       record { lives = q.lives; leads = q.leads; are_kept = q.are_kept }
   tells_with awaits.Nothing _ e = absurd (cc e)
+  tells_with (awaits.Back f) (message.Call func depth rest args told) e =
+      let goes = deeper_goes (calls_deeper (Some f) depth) _ turn e in
+      let q = call_seen d s.memory.agreed told turn.sight s.entered func depth args (sight_of rest s.entered (call_sight d s.memory.agreed s.entered func depth args told) turn goes) in
+      record { lives = q.lives; leads = q.leads; are_kept = q.are_kept }
   tells_with (awaits.Back f) (message.Back rest v told) e =
-      let q = back_seen d s.memory.agreed told turn.sight s.func s.entered f v (sight_of rest s.entered (back_sight d s.memory.agreed s.func s.entered f v told) turn e) in
+      let q = back_seen d s.memory.agreed told turn.sight s.func s.entered f.func v (sight_of rest s.entered (back_sight d s.memory.agreed s.func s.entered f.func v told) turn e) in
       record { lives = q.lives; leads = q.leads; are_kept = q.are_kept }
   tells_with (awaits.Back f) _ e = absurd (cc e)
   tells_with (awaits.Answer q left) (message.Answer results deaths news) e =

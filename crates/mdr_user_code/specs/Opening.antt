@@ -1,6 +1,6 @@
 -- protocol
 -- What a message opens, as the code has it.
-use Rattle.std.specs.Prelude.{ℕ, suc, Bool, true, false, ◌&&◌, List, [], ◌∷◌, is_none, nat_le, Option, Some, None, slice_get}
+use Rattle.std.specs.Prelude.{ℕ, suc, Bool, true, false, ◌&&◌, List, [], ◌∷◌, is_none, nat_le, nat_lt, Option, Some, None, slice_get}
 use Rattle.mdr_core.specs.declared.plan.Plan.{Plan}
 use Rattle.mdr_core.specs.declared.program.Program.{Program}
 use Rattle.mdr_core.specs.Layout.{chosen}
@@ -29,8 +29,10 @@ use Rattle.mdr_user_code.specs.declared.opening.Turn.{Turn}
 use Rattle.mdr_user_code.specs.declared.sight.Sight.{Sight}
 use Rattle.mdr_user_code.specs.declared.state.Awaits.{Awaits}
 use Rattle.mdr_user_code.specs.declared.state.Awaits.TheVariants as awaits
+use Rattle.mdr_user_code.specs.declared.state.Downcall.{Downcall}
 use Rattle.mdr_user_code.specs.declared.state.Question.{Question}
 use Rattle.mdr_user_code.specs.declared.state.State.{State}
+use Rattle.mdr_user_code.specs.declared.state.Suspended.{Suspended}
 use Rattle.mdr_user_code.specs.Standing.{asked_of, held_in}
 
 abbrev pub only_if : {A : Type 0} → Bool → A → Option A
@@ -94,22 +96,31 @@ abbrev pub opening_of : (rest : ℕ) → (entered : List ℕ) → Option Sight �
 opening_of rest entered None = opening.Refuses 3
 opening_of rest entered (Some sight) = opening.Goes (record { rest = rest; entered = entered; sight = sight })
 
-abbrev pub is_idle : Awaits → Bool
-is_idle awaits.Nothing = true
-is_idle (awaits.Back func) = false
-is_idle (awaits.Answer question left) = false
-
-abbrev pub downcall : Awaits → Option ℕ
+abbrev pub downcall : Awaits → Option Downcall
 downcall awaits.Nothing = None
-downcall (awaits.Back func) = Some func
+downcall (awaits.Back down) = Some down
 downcall (awaits.Answer question left) = None
 
-abbrev pub call_opening : Driver → State → (func depth rest : ℕ) → List Wire → Told → Opening
-call_opening d s func depth rest args told = chosen (is_idle s.awaits) (opening_of rest s.entered (call_sight d s.memory.agreed s.entered func depth args told)) (opening.Refuses 2)
+-- an upcall is awaited where nothing is open, or a downcall
+abbrev pub takes_call : Awaits → Bool
+takes_call awaits.Nothing = true
+takes_call (awaits.Back down) = true
+takes_call (awaits.Answer question left) = false
 
-abbrev pub back_by : Driver → State → Option ℕ → (rest : ℕ) → Wire → Told → Opening
+-- a callback has more functions active than the downcall that it comes in
+abbrev pub calls_deeper : Option Downcall → (depth : ℕ) → Bool
+calls_deeper None depth = true
+calls_deeper (Some down) depth = nat_lt down.depth depth
+
+abbrev pub call_opening : Driver → State → (func depth rest : ℕ) → List Wire → Told → Opening
+call_opening d s func depth rest args told =
+    chosen (takes_call s.awaits)
+    (chosen (calls_deeper (downcall s.awaits) depth) (opening_of rest s.entered (call_sight d s.memory.agreed s.entered func depth args told)) (opening.Refuses 3))
+    (opening.Refuses 2)
+
+abbrev pub back_by : Driver → State → Option Downcall → (rest : ℕ) → Wire → Told → Opening
 back_by d s None rest v told = opening.Refuses 2
-back_by d s (Some func) rest v told = opening_of rest s.entered (back_sight d s.memory.agreed s.func s.entered func v told)
+back_by d s (Some down) rest v told = opening_of rest s.entered (back_sight d s.memory.agreed s.func s.entered down.func v told)
 
 abbrev pub back_opening : Driver → State → (rest : ℕ) → Wire → Told → Opening
 back_opening d s rest v told = back_by d s (downcall s.awaits) rest v told
@@ -133,7 +144,7 @@ answered d s q left results deaths news = answered_by d s q left deaths news (an
 
 abbrev pub answer_by : Driver → State → Awaits → List Wire → (deaths : List ℕ) → List New → Opening
 answer_by d s awaits.Nothing results deaths news = opening.Refuses 2
-answer_by d s (awaits.Back func) results deaths news = opening.Refuses 2
+answer_by d s (awaits.Back down) results deaths news = opening.Refuses 2
 answer_by d s (awaits.Answer q left) results deaths news = answered d s q left results deaths news
 
 abbrev pub answer_opening : Driver → State → List Wire → (deaths : List ℕ) → List New → Opening
@@ -158,6 +169,16 @@ abbrev pub func_for : State → Message → ℕ
 func_for s (message.Call func depth rest args told) = func
 func_for s _ = s.func
 
-abbrev pub opens_as : Tree → (func : ℕ) → Opening → split.Opened
-opens_as tree func (opening.Refuses reason) = split.Refuses reason
-opens_as tree func (opening.Goes turn) = split.Runs tree turn.rest func turn.entered turn.sight.view turn.sight.copy
+-- user code that waits for a downcall, below the upcall that begins
+abbrev pub suspended_by : Option Downcall → State → List Suspended
+suspended_by None s = []
+suspended_by (Some down) s = record { machine = s.machine; func = s.func; down = down } ∷ s.below
+
+-- the upcalls below the one that an accepted message runs in
+abbrev pub below_for : State → Message → List Suspended
+below_for s (message.Call func depth rest args told) = suspended_by (downcall s.awaits) s
+below_for s _ = s.below
+
+abbrev pub opens_as : Tree → (func : ℕ) → List split.Down → Opening → split.Opened
+opens_as tree func below (opening.Refuses reason) = split.Refuses reason
+opens_as tree func below (opening.Goes turn) = split.Runs tree turn.rest func turn.entered turn.sight.view turn.sight.copy below

@@ -1,12 +1,13 @@
 -- protocol
 -- The reply of an event, and what is open behind it.
-use Rattle.std.specs.Prelude.{◌≡◌, ◌≤◌, ℕ, suc, ◌+◌, ◌-◌, true, List, map}
+use Rattle.std.specs.Prelude.{◌≡◌, ◌≤◌, ℕ, suc, ◌+◌, ◌-◌, true, List, map, [], ◌∷◌}
 use Rattle.mdr_core.specs.declared.program.Program.{Program}
 use Rattle.mdr_core.specs.declared.stop.StopKind.TheVariants as stop
 use Rattle.mdr_events.specs.declared.event.Asked.{Asked as Service}
 use Rattle.mdr_events.specs.declared.event.Event.{Event}
 use Rattle.mdr_events.specs.declared.event.Event.TheVariants as event
-use Rattle.mdr_events.specs.Held.{Held, tree}
+use Rattle.mdr_events.specs.Going.{RanTo}
+use Rattle.mdr_events.specs.Held.{tree}
 use Rattle.mdr_events.specs.Ready.{IsReady, is_started}
 use Rattle.mdr_events.specs.Steps.{child}
 use Rattle.mdr_events.specs.Values.{wires_of}
@@ -26,18 +27,19 @@ use Rattle.mdr_model.specs.declared.message.Run.{Run}
 use Rattle.mdr_model.specs.Copies.{changes, put_runs}
 use Rattle.mdr_model.specs.Memory.{Memory, normal}
 use Rattle.mdr_model.specs.ReplyFaults.{stop_number}
-use Rattle.mdr_split.specs.User.{guarded, replied_to}
+use Rattle.mdr_split.specs.User.{Delivered, guarded, replied_to}
 use Rattle.mdr_watched.specs.Driver.{Driver}
 use Rattle.mdr_user_code.specs.declared.opening.Turn.{Turn}
-use Rattle.mdr_user_code.specs.declared.state.Awaits.{Awaits}
 use Rattle.mdr_user_code.specs.declared.state.Awaits.TheVariants as awaits
 use Rattle.mdr_user_code.specs.declared.state.Question.{Question}
 use Rattle.mdr_user_code.specs.declared.state.State.{State}
-use Rattle.mdr_user_memory.specs.Copied.{Copied}
+use Rattle.mdr_user_code.specs.declared.state.Suspended.{Suspended}
+use Rattle.mdr_user_memory.specs.Copied.{Copied, copy_accesses}
 use Rattle.mdr_user_memory.specs.Kept.{LivesTo, past_in}
 use Rattle.mdr_user_memory.specs.Lived.{lived_by}
-use Rattle.mdr_user_code.specs.Opening.{func_for, tree_for}
-use Rattle.mdr_user_code.specs.Standing.{Opens, cut_delivered, held_in, kept_by, replies_so}
+use Rattle.mdr_split.specs.Fuel.{cut_delivered}
+use Rattle.mdr_user_code.specs.Opening.{below_for, downcall, func_for, suspended_by, tree_for}
+use Rattle.mdr_user_code.specs.Standing.{Opens, downs_of, held_in, kept_by, opens_below, replies_so}
 use Rattle.mdr_user_code.specs.Tidings.{deaths_in, news_in}
 
 -- ---- the machine is made ready
@@ -47,6 +49,13 @@ pub record IsStarted (d : Driver) (func : ℕ) (args : List Wire) (depth : ℕ) 
   pub by : (fuel r : ℕ) → r ≤ fuel → tree d.user fuel (held_of d.program m) r ≡ cut r (started d.user (suc fuel) func args depth Tree.Idle)
   pub ready : IsReady (held_of d.program m)
 
+-- an upcall begins, over what waits for a downcall
+pub record Begins (d : Driver) (func : ℕ) (args : List Wire) (depth : ℕ) (s s' : State) : Type 0 where
+  pub memory : s'.memory ≡ s.memory
+  pub named : s'.func ≡ func
+  pub below : s'.below ≡ suspended_by (downcall s.awaits) s
+  pub started : IsStarted d func args depth s'.machine
+
 -- a question is answered
 pub record IsResumed (results : List Wire) (m m' : Machine) : Type 0 where
   pub by : (program : Program) (side : Side) (fuel r : ℕ) → tree side fuel (held_of program m') r ≡ child (tree side fuel (held_of program m) r) results
@@ -55,6 +64,7 @@ pub record IsResumed (results : List Wire) (m m' : Machine) : Type 0 where
 pub record Resumed (results : List Wire) (s s' : State) : Type 0 where
   pub memory : s'.memory ≡ s.memory
   pub func : s'.func ≡ s.func
+  pub below : s'.below ≡ s.below
   pub machine : IsResumed results s.machine s'.machine
 
 -- the machine holds what a message runs
@@ -63,6 +73,8 @@ pub record Prepared (d : Driver) (s : State) (m : Message) (s' : State) : Type 0
   pub func : s'.func ≡ func_for s m
   pub holds : (fuel r : ℕ) → r ≤ fuel → tree d.user fuel (held_in d s') r ≡ cut r (tree_for d fuel s m)
   pub ready : IsReady (held_in d s')
+  pub below : s'.below ≡ below_for s m
+  pub waits : opens_below d s'.below
 
 -- ---- what is told
 
@@ -76,37 +88,53 @@ told_as ticks m runs (event.Stop kind at) = message.Stop ticks (stop_number kind
 abbrev pub question_as : Service → Question
 question_as q = record { service = q.service; at = q.at; args = wires_of q.args; shapes = q.shapes; bytes = q.bytes }
 
-abbrev pub awaits_as : (left : ℕ) → Event → Awaits
-awaits_as left (event.Done v) = awaits.Nothing
-awaits_as left (event.Cross c) = awaits.Back c.func
-awaits_as left (event.Service q) = awaits.Answer (question_as q) left
-awaits_as left (event.TicksOut at) = awaits.Nothing
-awaits_as left (event.Stop kind at) = awaits.Nothing
+-- where an upcall ended, the user code below it waits again
+abbrev pub rested_by : List Suspended → State → State
+rested_by [] s = record s { awaits = awaits.Nothing; below = [] }
+rested_by (x ∷ below) s = record s { machine = x.machine; func = x.func; awaits = awaits.Back x.down; below = below }
+
+-- a stop ends all upcalls
+abbrev pub ended : State → State
+ended s = record s { awaits = awaits.Nothing; below = [] }
+
+-- what is open behind an event that left so many ticks
+abbrev pub state_behind : (left : ℕ) → Event → State → State
+state_behind left (event.Done v) s = rested_by s.below s
+state_behind left (event.Cross c) s = record s { awaits = awaits.Back (record { func = c.func; depth = c.depth }) }
+state_behind left (event.Service q) s = record s { awaits = awaits.Answer (question_as q) left }
+state_behind left (event.TicksOut at) s = ended s
+state_behind left (event.Stop kind at) s = ended s
 
 -- the state behind an event: both halves agree on the changes that are told
 pub record IsSettled (s : State) (rest : ℕ) (c : Copied) (e : Event) (s' : State) : Type 0 where
   pub agreed : s'.memory.agreed ≡ put_runs (changes c.view c.agreed c.memory) c.agreed
   pub past : past_in s'.memory ≡ c.past
-  pub machine : s'.machine ≡ s.machine
-  pub func : s'.func ≡ s.func
-  pub entered : s'.entered ≡ s.entered
-  pub view : s'.view ≡ c.view
-  pub awaits : s'.awaits ≡ awaits_as (rest - s.machine.used) e
+  pub behind : s' ≡ state_behind (rest - s.machine.used) e (record s { memory = s'.memory; view = c.view })
 
 -- ---- user code runs
 
--- what is held runs with so many ticks over a copy, whatever ticks later messages grant
-pub record RunReplies (d : Driver) (held : Held) (stub : ℕ) (entered : List ℕ) (rest : ℕ) (view : List Cell) (copy : Memory) (reply : Message) (s' : State) : Type 0 where
+-- a machine runs the user half's code over a copy, with so many ticks, up to an event
+abbrev pub RunsUserCode : Driver → Machine → Copied → (ticks : ℕ) → Event → Machine → Copied → Type 0
+RunsUserCode d m c ticks e m' c' = RanTo copy_accesses d.user (held_of d.program m) c ticks e (held_of d.program m') c' (ticks - m'.used)
+
+-- what is held runs with so many ticks over the copy, whatever ticks later messages grant
+pub record RunReplies (d : Driver) (s : State) (rest : ℕ) (view : List Cell) (reply : Message) (s' : State) : Type 0 where
   pub opens : Opens d s'
   pub kept : kept_by s'.awaits ≤ rest
-  pub by : (fuel more : ℕ) (t : Tree) → rest + more ≤ fuel → tree d.user fuel held (rest + more) ≡ cut (rest + more) t
-      → cut_delivered more (replied_to stub entered view rest copy (walk (guarded view) rest t copy)) ≡ cut_delivered more (replies_so d fuel reply s')
+  pub by : (fuel more : ℕ) (t : Tree) → rest + more ≤ fuel → tree d.user fuel (held_in d s) (rest + more) ≡ cut (rest + more) t
+      → cut_delivered more (replied_to s.func s.entered view rest s.memory.agreed (downs_of d fuel s.below) (walk (guarded view) rest t s.memory.agreed))
+      ≡ cut_delivered more (replies_so d fuel reply s')
+
+-- what a message comes to by the definition, with so much fuel
+abbrev pub replied_for : Driver → State → Message → Turn → (fuel : ℕ) → Delivered
+replied_for d s m turn fuel =
+    replied_to (func_for s m) turn.entered turn.sight.view turn.rest turn.sight.copy (downs_of d fuel (below_for s m))
+    (walk (guarded turn.sight.view) turn.rest (tree_for d fuel s m) turn.sight.copy)
 
 -- user code goes on with a message, whose deaths and births are those of the user half's own memory
 pub record Proceeds (d : Driver) (s : State) (m : Message) (turn : Turn) (reply : Message) (s' : State) : Type 0 where
   pub opens : Opens d s'
   pub kept : kept_by s'.awaits ≤ turn.rest
   pub by : (fuel more : ℕ) → turn.rest + more ≤ fuel
-      → cut_delivered more (replied_to (func_for s m) turn.entered turn.sight.view turn.rest turn.sight.copy (walk (guarded turn.sight.view) turn.rest (tree_for d fuel s m) turn.sight.copy))
-      ≡ cut_delivered more (replies_so d fuel reply s')
+      → cut_delivered more (replied_for d s m turn fuel) ≡ cut_delivered more (replies_so d fuel reply s')
   pub lived : LivesTo (lived_by d.program (deaths_in m) (news_in m)) s.memory s'.memory

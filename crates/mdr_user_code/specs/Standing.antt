@@ -1,6 +1,6 @@
 -- protocol
 -- What the state of the code stands for, and what it tells of the messages so far.
-use Rattle.std.specs.Prelude.{◌≡◌, ℕ, suc, ◌+◌, ◌≤◌, Bool, true, false, List, [], ◌∷◌, ◌++◌, length, Ok, Err}
+use Rattle.std.specs.Prelude.{◌≡◌, ℕ, suc, ◌+◌, ◌≤◌, Bool, true, false, List, [], ◌∷◌, ◌++◌, length, Some, Ok, Err}
 use Rattle.mdr_core.specs.declared.plan.Plan.{Plan}
 use Rattle.mdr_core.specs.declared.program.Program.{Program}
 use Rattle.mdr_events.specs.Held.{Held, bare}
@@ -8,8 +8,8 @@ use Rattle.mdr_events.specs.Ready.{IsOpen, takes_answers, takes_value}
 use Rattle.mdr_events.specs.Steps.{child}
 use Rattle.mdr_exec.specs.Holding.{held_of}
 use Rattle.mdr_meaning.specs.declared.wire.Wire.{Wire}
-use Rattle.mdr_meaning.specs.Bodies.{known_of}
-use Rattle.mdr_meaning.specs.Cut.{cut}
+use Rattle.mdr_meaning.specs.Bodies.{body_of, known_of}
+use Rattle.mdr_meaning.specs.Sides.{Body}
 use Rattle.mdr_meaning.specs.Tree.{Asked, Tree}
 use Rattle.mdr_model.specs.declared.memory.Cell.{Cell}
 use Rattle.mdr_model.specs.declared.message.Message.{Message}
@@ -18,20 +18,24 @@ use Rattle.mdr_model.specs.Memory.{Memory}
 use Rattle.mdr_model.specs.Refusals.{is_refusal}
 use Rattle.mdr_model.specs.User.{allowance, granted}
 use Rattle.mdr_plain.specs.Storage.{first_memory}
-use Rattle.mdr_split.specs.User.{AwaitsAnswer, AwaitsBack, Delivered, Nothing, User, Work, deliver, first_user, user_after, user_reply}
+use Rattle.mdr_split.specs.Fuel.{cut_delivered, cut_user}
+use Rattle.mdr_split.specs.User.{AwaitsAnswer, AwaitsBack, Delivered, Down, Nothing, User, Work, deliver, first_user, user_after, user_reply}
 use Rattle.mdr_user_memory.specs.Kept.{IsLived, LivesTo}
 use Rattle.mdr_user_memory.specs.Lived.{Lived, lived_by, lived_of}
-use Rattle.mdr_watched.specs.Driver.{Driver, driver_of}
+use Rattle.mdr_watched.specs.Driver.{Driver, driver_of, is_user}
 use Rattle.mdr_user_code.specs.declared.scene.Scene.{Scene}
 use Rattle.mdr_user_code.specs.declared.state.Awaits.{Awaits}
 use Rattle.mdr_user_code.specs.declared.state.Awaits.TheVariants as awaits
+use Rattle.mdr_user_code.specs.declared.state.Downcall.{Downcall}
 use Rattle.mdr_user_code.specs.declared.state.Question.{Question}
 use Rattle.mdr_user_code.specs.declared.state.State.{State}
+use Rattle.mdr_user_code.specs.declared.state.Suspended.{Suspended}
 use Rattle.mdr_user_code.specs.Tidings.{deaths_in, news_in}
 
--- each function has a half
-abbrev pub IsFit : Plan → Program → Type 0
-IsFit plan program = length plan.halves ≡ length program.funcs
+-- each function has a half, and each of the user half a body
+pub record IsFit (plan : Plan) (program : Program) : Type 0 where
+  pub halves : length plan.halves ≡ length program.funcs
+  pub bodies : (func : ℕ) → is_user plan func ≡ true → (body : Body) × (body_of program func ≡ Some body)
 
 abbrev pub driver_in : Scene → Driver
 driver_in s = driver_of s.program.now s.plan.now
@@ -41,45 +45,49 @@ driver_in s = driver_of s.program.now s.plan.now
 abbrev pub asked_of : Question → Asked
 asked_of q = record { service = q.service; at = q.at; args = q.args; shapes = q.shapes; bytes = q.bytes }
 
-abbrev pub work_by : Awaits → (stub : ℕ) → List Cell → (goes : List Wire → Tree) → Work
-work_by awaits.Nothing stub view goes = Nothing
-work_by (awaits.Back func) stub view goes = AwaitsBack stub func view (λ v. goes (v ∷ []))
-work_by (awaits.Answer question left) stub view goes = AwaitsAnswer stub (asked_of question) view left goes
+abbrev pub down_as : (stub : ℕ) → Downcall → (goes : List Wire → Tree) → Down
+down_as stub down goes = record { stub = stub; func = down.func; depth = down.depth; goes = λ v. goes (v ∷ []) }
+
+abbrev pub work_by : Awaits → (stub : ℕ) → List Cell → (goes : List Wire → Tree) → List Down → Work
+work_by awaits.Nothing stub view goes below = Nothing
+work_by (awaits.Back down) stub view goes below = AwaitsBack (down_as stub down goes) below
+work_by (awaits.Answer question left) stub view goes below = AwaitsAnswer stub (asked_of question) view left goes below
+
+-- the downcalls in which the kernel half called back
+abbrev pub downs_of : Driver → (fuel : ℕ) → List Suspended → List Down
+downs_of d fuel [] = []
+downs_of d fuel (x ∷ below) = down_as x.func x.down (child (bare d.user fuel (held_of d.program x.machine))) ∷ downs_of d fuel below
 
 abbrev pub held_in : Driver → State → Held
 held_in d s = held_of d.program s.machine
 
 -- with fuel for so many turns of loops and calls
 abbrev pub user_of : Driver → (fuel : ℕ) → State → User
-user_of d fuel s = record { agreed = s.memory.agreed; entered = s.entered; work = work_by s.awaits s.func s.view (child (bare d.user fuel (held_in d s))) }
+user_of d fuel s = record {
+  agreed = s.memory.agreed;
+  entered = s.entered;
+  work = work_by s.awaits s.func s.view (child (bare d.user fuel (held_in d s))) (downs_of d fuel s.below);
+}
 
 -- the machine waits for what is awaited
 abbrev pub opens_by : Awaits → Held → Type 0
 opens_by awaits.Nothing h = Unit {0}
-opens_by (awaits.Back func) h = IsOpen takes_value h
+opens_by (awaits.Back down) h = IsOpen takes_value h
 opens_by (awaits.Answer question left) h = IsOpen (takes_answers (asked_of question)) h
 
+-- each machine below waits for its downcall
+abbrev pub opens_below : Driver → List Suspended → Type 0
+opens_below d [] = Unit {0}
+opens_below d (x ∷ below) = IsOpen takes_value (held_of d.program x.machine) × opens_below d below
+
 abbrev pub Opens : Driver → State → Type 0
-Opens d s = opens_by s.awaits (held_in d s)
+Opens d s = opens_by s.awaits (held_in d s) × opens_below d s.below
 
 -- the ticks that an answer goes on with
 abbrev pub kept_by : Awaits → ℕ
 kept_by awaits.Nothing = 0
-kept_by (awaits.Back func) = 0
+kept_by (awaits.Back down) = 0
 kept_by (awaits.Answer question left) = left
-
--- ---- up to so many ticks that later messages grant
-
-abbrev pub cut_work : ℕ → Work → Work
-cut_work r Nothing = Nothing
-cut_work r (AwaitsBack stub func view goes) = AwaitsBack stub func view (λ v. cut r (goes v))
-cut_work r (AwaitsAnswer stub asked view left goes) = AwaitsAnswer stub asked view left (λ vs. cut (r + left) (goes vs))
-
-abbrev pub cut_user : ℕ → User → User
-cut_user r u = record { agreed = u.agreed; entered = u.entered; work = cut_work r u.work }
-
-abbrev pub cut_delivered : ℕ → Delivered → Delivered
-cut_delivered r d = record { reply = d.reply; user = cut_user r d.user }
 
 -- a reply, and the state after it
 abbrev pub replies_so : Driver → (fuel : ℕ) → Message → State → Delivered
@@ -120,6 +128,14 @@ pub record Follows (d : Driver) (before : List Reading) (s : State) : Type 0 whe
   pub opens : Opens d s
   pub by : (fuel more : ℕ) → allowance before + more ≤ fuel → cut_user more (user_after d (suc fuel) (first_user d) before) ≡ cut_user more (user_of d fuel s)
   pub lived : IsLived (lived_after d before) s.memory
+
+-- the reply to one message more is the definition's, whatever came before it
+abbrev pub IsReplied : Driver → State → Reading → Message → Type 0
+IsReplied d s x reply = (before : List Reading) → Follows d before s → reply ≡ user_reply d before x
+
+-- and what is open behind it follows that message too
+abbrev pub GoesOnTo : Driver → State → Reading → State → Type 0
+GoesOnTo d s x s' = (before : List Reading) → Follows d before s → Follows d (before ++ x ∷ []) s'
 
 -- the memory of the user half after messages, by the kernel's serials
 abbrev pub user_memory : Driver → (before : List Reading) → Memory

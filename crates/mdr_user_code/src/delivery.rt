@@ -1,18 +1,16 @@
 // One message.
 
-ghost use Rattle.std.specs.Prelude.{◌≡◌, [], ◌∷◌, ◌++◌, List, true, Ok, IfOk, OnOk};
-ghost use Rattle.mdr_core.specs.Sound.{HasFewNumbers, IsSound};
+ghost use Rattle.std.specs.Prelude.{◌≡◌, [], true, Ok, IfOk, OnOk};
+ghost use Rattle.mdr_core.specs.Sound.{IsSound};
 ghost use Rattle.mdr_model.specs.declared.message.Message.TheVariants as message_is;
-ghost use Rattle.mdr_model.specs.KernelState.{Reading};
 ghost use Rattle.mdr_model.specs.Refusals.{is_refusal};
-ghost use Rattle.mdr_split.specs.User.{user_reply};
 ghost use Rattle.mdr_user_memory.specs.Kept.{LivesTo};
 ghost use Rattle.mdr_user_memory.specs.Lived.{lived_by};
 ghost use Rattle.mdr_watched.specs.Driver.{driver_of};
 ghost use Rattle.mdr_user_code.specs.declared.opening.Opening.TheVariants as opening;
 ghost use Rattle.mdr_user_code.specs.Opening.{opening_for};
 ghost use Rattle.mdr_user_code.specs.Replying.{Proceeds};
-ghost use Rattle.mdr_user_code.specs.Standing.{Follows, IsFit, Opens, Replies, driver_in};
+ghost use Rattle.mdr_user_code.specs.Standing.{Follows, GoesOnTo, IsFit, IsReplied, Opens, Replies, driver_in};
 ghost use Rattle.mdr_user_code.specs.Tidings.{TellsTo, deaths_in, news_in};
 
 use crate::first::first_memory;
@@ -32,13 +30,14 @@ use std::alloc::Global;
 
 /// The state before any message.
 pub fn begins(alloc: Global, program: &Program, plan: &Plan) -> Result<State, OutOfMemory>
-    requires { HasFewNumbers program.now }
+    requires { IsSound program.now }
     ensures { IfOk result (λ s. Follows (driver_of program.now plan.now) [] s) }
 {
     let _ = plan;
     let agreed = first_memory(alloc, program)?;
     let memory = UserMemory::of_copy(alloc, agreed)?;
     let entered = Items::new(alloc);
+    let below = Items::new(alloc);
     Ok(State {
         memory,
         machine: Machine::new(alloc, Side::User),
@@ -46,6 +45,7 @@ pub fn begins(alloc: Global, program: &Program, plan: &Plan) -> Result<State, Ou
         entered,
         view: CellList::of(Items::new(alloc)),
         awaits: Awaits::Nothing,
+        below,
     })
 }
 
@@ -150,8 +150,8 @@ pub fn delivered(
     requires sound { IsSound program.now }
     requires fit { IsFit plan.now program.now }
     requires opens { Opens (driver_of program.now plan.now) state.old }
-    ensures reply { IfOk result (λ r. (before : List Reading) → Follows (driver_of program.now plan.now) before state.old → r ≡ user_reply (driver_of program.now plan.now) before message.now) }
-    ensures follows { OnOk result ((before : List Reading) → Follows (driver_of program.now plan.now) before state.old → Follows (driver_of program.now plan.now) (before ++ message.now ∷ []) state.new) }
+    ensures reply { IfOk result (IsReplied (driver_of program.now plan.now) state.old message.now) }
+    ensures follows { OnOk result (GoesOnTo (driver_of program.now plan.now) state.old message.now state.new) }
     ensures refused { IfOk result (λ r. is_refusal r ≡ true → state.new ≡ state.old) }
 {
     let scene = Scene { program, plan };

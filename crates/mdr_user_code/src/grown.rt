@@ -1,12 +1,13 @@
 // The visible cells behind an answer.
 
-ghost use Rattle.std.specs.Prelude.{◌≡◌, ◌*◌, [], ◌∷◌, ◌++◌, filter, IfOk, IfSome, OnOk};
+ghost use Rattle.std.specs.Prelude.{◌≡◌, ◌≤◌, ◌*◌, [], ◌∷◌, ◌++◌, true, filter, IfOk, OnOk};
+ghost use Rattle.std.specs.List.{list_all};
 ghost use Rattle.mdr_core.specs.Sound.{IsSound};
 ghost use Rattle.mdr_extents.specs.Extent.{is_touched};
 ghost use Rattle.mdr_extents.specs.Reaching.{own_cells};
 ghost use Rattle.mdr_model.specs.Memory.{size_of, zero_block};
 ghost use Rattle.mdr_model.specs.Sets.{cells_from};
-ghost use Rattle.mdr_model.specs.User.{still_live};
+ghost use Rattle.mdr_model.specs.User.{has_shape, still_live};
 ghost use Rattle.mdr_split.specs.User.{cells_of_news};
 
 use crate::keys::is_touched;
@@ -15,23 +16,19 @@ use mdr_core::{Items, Key, OutOfMemory, Program, cells_of};
 use mdr_model::{Cell, New};
 use std::alloc::Global;
 
-fn product(a: u32, b: u32) -> Option<u32>
-    ensures { IfSome result (λ n. n ≡ a * b) }
+fn product(a: u32, b: u32) -> u32
+    requires { a * b ≤ 65536 }
+    ensures { result ≡ a * b }
 {
-    match a.checked_mul(b) {
-        Some(n) => Some(n),
-        None => None,
-    }
+    a * b
 }
 
-/// How many cells a block has. It fails where they are more than the last index that a cell can have.
-fn size_of(program: &Program, block: New) -> Option<u32>
-    requires { IsSound program.now }
-    ensures { IfSome result (λ n. n ≡ size_of program.now block) }
+/// How many cells a block has.
+fn size_of(program: &Program, block: New) -> u32
+    requires sound { IsSound program.now }
+    requires shaped { has_shape program.now block ≡ true }
+    ensures { result ≡ size_of program.now block }
 {
-    if block.ty as usize >= program.types.as_slice().len() {
-        return Some(0);
-    }
     product(block.count, cells_of(program, block.ty))
 }
 
@@ -78,13 +75,12 @@ fn put_own(
     touched: &[Key],
     block: New,
 ) -> Result<(), OutOfMemory>
-    requires { IsSound program.now }
+    requires sound { IsSound program.now }
+    requires shaped { has_shape program.now block ≡ true }
     ensures { OnOk result (out.new ≡ out.old ++ own_cells program.now touched.now (zero_block program.now block)) }
 {
-    match size_of(program, block) {
-        Some(size) => put_all_touched(out, program, touched, block, size),
-        None => Err(OutOfMemory::unmet()),
-    }
+    let size = size_of(program, block);
+    put_all_touched(out, program, touched, block, size)
 }
 
 #[tactic(auto, unfolding(mdr_split::specs::User::cells_of_news))]
@@ -94,7 +90,8 @@ fn put_news(
     touched: &[Key],
     news: &[New],
 ) -> Result<(), OutOfMemory>
-    requires { IsSound program.now }
+    requires sound { IsSound program.now }
+    requires shaped { list_all (has_shape program.now) news.now ≡ true }
     ensures { OnOk result (out.new ≡ out.old ++ cells_of_news program.now touched.now news.now) }
 {
     for block in news {
@@ -116,7 +113,8 @@ fn still_live(alloc: Global, copy: &RisingBlocks, seen: &[Cell]) -> Result<Items
     Ok(left)
 }
 
-/// The visible cells that are left, and those of the new blocks that have a key among these.
+/// The visible cells that are left, and those of the new blocks that have a key among these. Each new block has a type of
+/// the table, and 1 to 65,536 cells.
 pub(crate) fn visible_after(
     alloc: Global,
     program: &Program,
@@ -125,7 +123,8 @@ pub(crate) fn visible_after(
     news: &[New],
     seen: &[Cell],
 ) -> Result<CellList, OutOfMemory>
-    requires { IsSound program.now }
+    requires sound { IsSound program.now }
+    requires shaped { list_all (has_shape program.now) news.now ≡ true }
     ensures { IfOk result (λ cells. cells ≡ filter (still_live copy.now) seen.now ++ cells_of_news program.now touched.now news.now) }
 {
     let mut cells = still_live(alloc, copy, seen)?;

@@ -1,17 +1,20 @@
 // What a message opens.
 
-ghost use Rattle.std.specs.Prelude.{◌≡◌, ◌&&◌, [], IfOk};
+ghost use Rattle.std.specs.Prelude.{◌≡◌, ◌&&◌, [], true, IfOk};
+ghost use Rattle.std.specs.List.{list_all};
 ghost use Rattle.mdr_core.specs.Sound.{IsSound};
+ghost use Rattle.mdr_model.specs.User.{has_shape};
 ghost use Rattle.mdr_split.specs.Services.{leaving, results_fit};
 ghost use Rattle.mdr_split.specs.User.{objects_fit};
-ghost use Rattle.mdr_user_code.specs.Opening.{answer_copy, answer_opening, answer_turn, answered, back_opening, back_sight, call_opening, call_sight, grown_sight, is_answered, is_idle, opening_of, opening_for, downcall};
+ghost use Rattle.mdr_user_code.specs.Opening.{answer_copy, answer_opening, answer_turn, answered, back_opening, back_sight, call_opening};
+ghost use Rattle.mdr_user_code.specs.Opening.{call_sight, calls_deeper, downcall, grown_sight, is_answered, opening_of, opening_for, takes_call};
 ghost use Rattle.mdr_user_code.specs.Standing.{asked_of, driver_in};
 
 use crate::grown::visible_after;
 use crate::objects::objects_fit;
 use crate::scene::Scene;
 use crate::sight::{Sight, back_sight, call_sight, renewed, touched};
-use crate::state::{Awaits, Question, State};
+use crate::state::{Awaits, Downcall, Question, State};
 use mdr_copy::RisingBlocks;
 use mdr_core::{Items, OutOfMemory};
 use mdr_fits::{entered_behind, leaving, results_fit};
@@ -47,28 +50,38 @@ fn opening_of(rest: u64, entered: Items<u64>, sight: Option<Sight>) -> Opening
     }
 }
 
-fn is_idle(state: &State) -> bool
-    ensures { result ≡ is_idle state.now.awaits }
-{
-    match &state.awaits {
-        Awaits::Nothing => true,
-        Awaits::Back(_) => false,
-        Awaits::Answer(_, _) => false,
-    }
-}
-
-/// The function of the downcall that is open.
-fn downcall(state: &State) -> Option<u32>
+/// The downcall that is open.
+pub(crate) fn downcall(state: &State) -> Option<Downcall>
     ensures { result ≡ downcall state.now.awaits }
 {
     match &state.awaits {
         Awaits::Nothing => None,
-        Awaits::Back(func) => Some(*func),
+        Awaits::Back(down) => Some(*down),
         Awaits::Answer(_, _) => None,
     }
 }
 
-/// An upcall, which is awaited where nothing is open.
+fn takes_call(state: &State) -> bool
+    ensures { result ≡ takes_call state.now.awaits }
+{
+    match &state.awaits {
+        Awaits::Nothing => true,
+        Awaits::Back(_) => true,
+        Awaits::Answer(_, _) => false,
+    }
+}
+
+/// Whether a callback has more functions active than the downcall that it comes in.
+fn calls_deeper(state: &State, depth: u32) -> bool
+    ensures { result ≡ calls_deeper (downcall state.now.awaits) depth }
+{
+    match downcall(state) {
+        Some(down) => down.depth < depth,
+        None => true,
+    }
+}
+
+/// An upcall, which is awaited where nothing is open, or a downcall, in which the kernel half calls back.
 fn open_call(
     alloc: Global,
     scene: Scene,
@@ -82,8 +95,11 @@ fn open_call(
     requires { IsSound scene.program.now }
     ensures { IfOk result (λ o. o ≡ call_opening (driver_in scene.entry) state.now func depth rest args.now told.now) }
 {
-    if !is_idle(state) {
+    if !takes_call(state) {
         return Ok(Opening::Refuses(2));
+    }
+    if !calls_deeper(state, depth) {
+        return Ok(Opening::Refuses(3));
     }
     let entered = Items::from_slice(alloc, state.entered.as_slice())?;
     let copy = state.memory.agreed();
@@ -124,8 +140,8 @@ fn open_back(
     ensures { IfOk result (λ o. o ≡ back_opening (driver_in scene.entry) state.now rest value told.now) }
 {
     match downcall(state) {
-        Some(func) => {
-            let opening = back(alloc, scene, state, func, rest, value, told)?;
+        Some(down) => {
+            let opening = back(alloc, scene, state, down.func, rest, value, told)?;
             Ok(opening)
         }
         None => Ok(Opening::Refuses(2)),
@@ -185,7 +201,8 @@ fn grown_sight(
     copy: RisingBlocks,
     news: &[New],
 ) -> Result<Sight, OutOfMemory>
-    requires { IsSound scene.program.now }
+    requires sound { IsSound scene.program.now }
+    requires shaped { list_all (has_shape scene.program.now) news.now ≡ true }
     ensures { IfOk result (λ s. s ≡ grown_sight (driver_in scene.entry) state.now news.now copy) }
 {
     let keys = touched(scene.plan, state.func);
@@ -204,7 +221,8 @@ fn answer_turn(
     news: &[New],
     copy: RisingBlocks,
 ) -> Result<Turn, OutOfMemory>
-    requires { IsSound scene.program.now }
+    requires sound { IsSound scene.program.now }
+    requires shaped { list_all (has_shape scene.program.now) news.now ≡ true }
     ensures { IfOk result (λ t. t ≡ answer_turn (driver_in scene.entry) state.now question.now left deaths.now news.now copy) }
 {
     let lives = state.entered.as_slice();

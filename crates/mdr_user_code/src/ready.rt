@@ -1,46 +1,26 @@
 // The machine is made ready for a message: a function is started in it, or it goes on with answers.
 
-ghost use Rattle.std.specs.Prelude.{◌≡◌, ◌≤◌, [], ◌∷◌, List, length, true, Some, IfOk, IsTrue, OnOk, option_copied, slice_get};
+ghost use Rattle.std.specs.Prelude.{◌≡◌, ◌≤◌, [], ◌∷◌, List, length, true, OnOk};
 ghost use Rattle.mdr_core.specs.declared.value.Value.{Value as AnyValue};
 ghost use Rattle.mdr_events.specs.Values.{wires_of};
 ghost use Rattle.mdr_exec.specs.Holding.{FitQuestion, waits};
-ghost use Rattle.mdr_meaning.specs.Bodies.{body_of};
-ghost use Rattle.mdr_meaning.specs.Sides.{Body};
 ghost use Rattle.mdr_watched.specs.Driver.{is_user};
 ghost use Rattle.mdr_user_code.specs.declared.opening.Opening.TheVariants as opening;
 ghost use Rattle.mdr_user_code.specs.declared.opening.Turn.{Turn as AnyTurn};
-ghost use Rattle.mdr_user_code.specs.Opening.{opening_for};
-ghost use Rattle.mdr_user_code.specs.Replying.{IsResumed, IsStarted, Prepared, Resumed};
+ghost use Rattle.mdr_user_code.specs.Opening.{downcall, opening_for, suspended_by};
+ghost use Rattle.mdr_user_code.specs.Replying.{Begins, IsResumed, IsStarted, Prepared, Resumed};
 ghost use Rattle.mdr_user_code.specs.Standing.{IsFit, Opens, driver_in};
 
+use crate::opening::downcall;
 use crate::replying::put;
 use crate::scene::Scene;
-use crate::state::State;
+use crate::state::{State, Suspended};
 use crate::values::values_of;
-use mdr_core::{Func, OutOfMemory, Program, Value};
+use mdr_core::{Items, OutOfMemory, Value};
 use mdr_exec::{Machine, Side};
 use mdr_model::{Message, Wire};
 use std::alloc::Global;
-
-fn func_at<'a>(program: &'a Program, func: u32) -> Option<&'a Func>
-    ensures { option_copied result ≡ slice_get program.now.funcs func }
-{
-    program.funcs.as_slice().get(func as usize)
-}
-
-/// Whether a function has a body.
-#[tactic(auto, unfolding(mdr_meaning::specs::Bodies::body_of))]
-fn has_body(program: &Program, func: u32) -> bool
-    ensures { IsTrue result → (body : Body) × (body_of program.now func ≡ Some body) }
-{
-    match func_at(program, func) {
-        Some(func) => match &func.body {
-            Some(_) => true,
-            None => false,
-        },
-        None => false,
-    }
-}
+use std::mem;
 
 /// Starts a function in a machine, over nothing, with so many active before it. What the machine held is gone.
 fn restart(
@@ -56,13 +36,34 @@ fn restart(
     requires depth { depth ≤ 255 }
     ensures { OnOk result (IsStarted (driver_in scene.entry) func args.now depth machine.new) }
 {
-    if !has_body(scene.program, func) {
-        return Err(OutOfMemory::unmet());
-    }
     let values = values_of(alloc, args)?;
     put(machine, Machine::new(alloc, Side::User));
     machine.start(alloc, scene.program, func, values.as_slice(), depth)?;
     Ok(())
+}
+
+/// User code that waits for a downcall goes below the upcall that begins.
+fn suspend(alloc: Global, state: &mut State) -> Result<(), OutOfMemory>
+    ensures memory { OnOk result (state.new.memory ≡ state.old.memory) }
+    ensures below { OnOk result (state.new.below ≡ suspended_by (downcall state.old.awaits) state.old) }
+{
+    let waiting = downcall(state);
+    let mut below = mem::replace(&mut state.below, Items::new(alloc)).into_vec();
+    match waiting {
+        Some(down) => {
+            let machine = mem::replace(&mut state.machine, Machine::new(alloc, Side::User));
+            let func = state.func;
+            let suspended = Suspended {
+                machine,
+                func,
+                down,
+            };
+            below.insert(0, suspended)?;
+            put(&mut state.below, Items::from_vec(below));
+            Ok(())
+        }
+        None => Ok(()),
+    }
 }
 
 fn start(
@@ -76,10 +77,9 @@ fn start(
     requires fit { IsFit scene.plan.now scene.program.now }
     requires user { is_user scene.plan.now func ≡ true }
     requires depth { depth ≤ 255 }
-    ensures memory { OnOk result (state.new.memory ≡ state.old.memory) }
-    ensures func { OnOk result (state.new.func ≡ func) }
-    ensures started { OnOk result (IsStarted (driver_in scene.entry) func args.now depth state.new.machine) }
+    ensures { OnOk result (Begins (driver_in scene.entry) func args.now depth state.old state.new) }
 {
+    suspend(alloc, state)?;
     restart(alloc, scene, &mut state.machine, func, args, depth)?;
     state.func = func;
     Ok(())

@@ -7,9 +7,9 @@ ghost use Rattle.mdr_model.specs.declared.message.Message.TheVariants as message
 ghost use Rattle.mdr_model.specs.Copies.{changes, put_runs};
 ghost use Rattle.mdr_model.specs.Memory.{normal};
 ghost use Rattle.mdr_model.specs.ReplyFaults.{stop_number};
-ghost use Rattle.mdr_user_code.specs.Replying.{IsSettled, awaits_as, question_as, told_as};
+ghost use Rattle.mdr_user_code.specs.Replying.{IsSettled, ended, question_as, rested_by, state_behind, told_as};
 
-use crate::state::{Awaits, Question, State};
+use crate::state::{Awaits, Downcall, Question, State};
 use crate::values::wires_of;
 use mdr_copy::{RisingBlocks, normal, normals, wire_of};
 use mdr_core::{Items, OutOfMemory, StopKind, Value};
@@ -17,6 +17,7 @@ use mdr_events::{Asked, Crossing, Event};
 use mdr_model::{Message, Run, Wire};
 use mdr_user_memory::{SeenMemory, gather};
 use std::alloc::Global;
+use std::mem;
 
 /// A stop's number, from 1.
 fn stop_number(kind: StopKind) -> u32
@@ -142,19 +143,6 @@ fn question_of(alloc: Global, asked: &Asked) -> Result<Question, OutOfMemory>
     })
 }
 
-/// What is awaited behind an event that left so many ticks.
-fn awaits_behind(alloc: Global, event: &Event, left: u64) -> Result<Awaits, OutOfMemory>
-    ensures { IfOk result (λ a. a ≡ awaits_as left event.now) }
-{
-    match event {
-        Event::Done(_) => Ok(Awaits::Nothing),
-        Event::Cross(crossing) => Ok(Awaits::Back(crossing.func)),
-        Event::Service(asked) => Ok(Awaits::Answer(question_of(alloc, asked)?, left)),
-        Event::TicksOut(_) => Ok(Awaits::Nothing),
-        Event::Stop(_, _) => Ok(Awaits::Nothing),
-    }
-}
-
 /// Puts a value in place of another.
 pub(crate) fn put<T: Drop>(place: &mut T, value: T)
     ensures { place.new ≡ value }
@@ -162,12 +150,50 @@ pub(crate) fn put<T: Drop>(place: &mut T, value: T)
     *place = value;
 }
 
-/// What is awaited behind an event is kept.
-fn keep(alloc: Global, state: &mut State, event: &Event, left: u64) -> Result<(), OutOfMemory>
-    ensures { OnOk result (state.new ≡ record state.old { awaits = awaits_as left event.now }) }
+/// Where an upcall ended, the user code below it waits again.
+fn rest(alloc: Global, state: &mut State)
+    ensures { state.new ≡ rested_by state.old.below state.old }
 {
-    let awaits = awaits_behind(alloc, event, left)?;
-    put(&mut state.awaits, awaits);
+    let mut below = mem::replace(&mut state.below, Items::new(alloc)).into_vec();
+    if below.is_empty() {
+        put(&mut state.awaits, Awaits::Nothing);
+    } else {
+        let waiting = below.remove(0);
+        put(&mut state.machine, waiting.machine);
+        state.func = waiting.func;
+        put(&mut state.awaits, Awaits::Back(waiting.down));
+        put(&mut state.below, Items::from_vec(below));
+    }
+}
+
+/// A stop ends all upcalls.
+fn end(alloc: Global, state: &mut State)
+    ensures { state.new ≡ ended state.old }
+{
+    put(&mut state.awaits, Awaits::Nothing);
+    put(&mut state.below, Items::new(alloc));
+}
+
+/// What is open behind an event that left so many ticks is kept.
+fn keep(alloc: Global, state: &mut State, event: &Event, left: u64) -> Result<(), OutOfMemory>
+    ensures { OnOk result (state.new ≡ state_behind left event.now state.old) }
+{
+    match event {
+        Event::Done(_) => rest(alloc, state),
+        Event::Cross(crossing) => {
+            let down = Downcall {
+                func: crossing.func,
+                depth: crossing.depth,
+            };
+            put(&mut state.awaits, Awaits::Back(down));
+        }
+        Event::Service(asked) => {
+            let question = question_of(alloc, asked)?;
+            put(&mut state.awaits, Awaits::Answer(question, left));
+        }
+        Event::TicksOut(_) => end(alloc, state),
+        Event::Stop(_, _) => end(alloc, state),
+    }
     Ok(())
 }
 

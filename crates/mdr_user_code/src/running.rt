@@ -1,14 +1,12 @@
 // User code runs up to its next event.
 
-ghost use Rattle.std.specs.Prelude.{◌≡◌, ◌≤◌, ◌-◌, IfOk, OnOk};
+ghost use Rattle.std.specs.Prelude.{◌≡◌, ◌≤◌, IfOk, OnOk};
 ghost use Rattle.mdr_core.specs.Sound.{IsSound};
-ghost use Rattle.mdr_events.specs.Going.{RanTo};
 ghost use Rattle.mdr_events.specs.Ready.{IsReady};
 ghost use Rattle.mdr_exec.specs.Holding.{held_of};
-ghost use Rattle.mdr_user_memory.specs.Copied.{copy_accesses};
 ghost use Rattle.mdr_user_memory.specs.Kept.{past_in};
-ghost use Rattle.mdr_user_code.specs.Replying.{RunReplies};
-ghost use Rattle.mdr_user_code.specs.Standing.{IsFit, driver_in, held_in};
+ghost use Rattle.mdr_user_code.specs.Replying.{RunReplies, RunsUserCode};
+ghost use Rattle.mdr_user_code.specs.Standing.{IsFit, driver_in, opens_below};
 
 use crate::release::given_up;
 use crate::replying::settle;
@@ -34,7 +32,7 @@ fn go(
     requires sound { IsSound scene.program.now }
     requires fit { IsFit scene.plan.now scene.program.now }
     requires ready { IsReady (held_of scene.program.now machine.old) }
-    ensures ran { IfOk result (λ e. RanTo copy_accesses (driver_in scene.entry).user (held_of scene.entry.program.now machine.old) memory.old ticks e (held_of scene.entry.program.now machine.new) memory.new (ticks - machine.new.used)) }
+    ensures ran { IfOk result (λ e. RunsUserCode (driver_in scene.entry) machine.old memory.old ticks e machine.new memory.new) }
     ensures used { OnOk result (machine.new.used ≤ ticks) }
 {
     machine.side = Side::User;
@@ -54,7 +52,8 @@ pub(crate) fn run(
     requires sound { IsSound scene.program.now }
     requires fit { IsFit scene.plan.now scene.program.now }
     requires ready { IsReady (held_of scene.program.now state.old.machine) }
-    ensures replies { IfOk result (λ r. RunReplies (driver_in scene.entry) (held_in (driver_in scene.entry) state.old) state.old.func state.old.entered rest view state.old.memory.agreed r state.new) }
+    requires below { opens_below (driver_in scene) state.old.below }
+    ensures replies { IfOk result (λ r. RunReplies (driver_in scene.entry) state.old rest view r state.new) }
     ensures past { OnOk result (past_in state.new.memory ≡ past_in state.old.memory) }
 {
     state.memory.is_paired();

@@ -19,18 +19,35 @@ pub struct Question {
     pub bytes: Items<u8>,
 }
 
+/// A downcall: its function, and how many functions are active before it.
+#[derive(Clone, Copy)]
+pub struct Downcall {
+    pub func: u32,
+    pub depth: u32,
+}
+
 /// What is open.
 #[derive(Drop)]
 pub enum Awaits {
     Nothing,
-    /// A downcall of a function.
-    Back(u32),
+    /// A downcall.
+    Back(Downcall),
     /// A service, with the ticks that are left.
     Answer(Question, u64),
 }
 
+/// User code that waits for a downcall, in which the kernel half called back: the function that its upcall called, and
+/// the downcall.
+#[derive(Drop)]
+pub struct Suspended {
+    pub machine: Machine,
+    pub func: u32,
+    pub down: Downcall,
+}
+
 /// What the user half keeps between messages: its memory with the agreed copy, the code that waits, the function that the open
-/// upcall called, the blocks that came in an answer to service 13 and live, the visible cells, and what is awaited.
+/// upcall called, the blocks that came in an answer to service 13 and live, the visible cells, what is awaited, and what waits below
+/// the upcall that is open, the innermost first.
 #[derive(Drop)]
 pub struct State {
     pub(crate) memory: UserMemory,
@@ -39,6 +56,7 @@ pub struct State {
     pub(crate) entered: Items<u64>,
     pub(crate) view: CellList,
     pub(crate) awaits: Awaits,
+    pub(crate) below: Items<Suspended>,
 }
 
 impl State {

@@ -1,8 +1,10 @@
 -- A memory of one's own for a copy.
-use Rattle.std.proofs.Common.{◌≡◌, ◌∙◌, ◌<◌, ℕ, zero, suc, true, false, [], ◌∷◌, ◌++◌, length, take, get_or, Option, Some, None, refl, sym, ap, subst, arith}
+use Rattle.std.proofs.Common.{◌≡◌, ◌∙◌, ◌<◌, ℕ, zero, suc, true, false, List, [], ◌∷◌, ◌++◌, length, map, take, get_or, Option, Some, None, refl, sym, ap, subst, arith}
 use Rattle.std.specs.Prelude.{is_some}
 use Rattle.std.proofs.lemmas.Bool.{eqb-true, eq-eqb}
+use Rattle.std.proofs.lemmas.List.{length-map}
 use Rattle.mdr_core.specs.declared.value.Block.{Block}
+use Rattle.mdr_core.specs.declared.value.Value.{Value}
 use Rattle.mdr_meaning.specs.declared.wire.Wire.{Wire}
 use Rattle.mdr_meaning.specs.declared.wire.Wire.TheVariants as wire
 use Rattle.mdr_meaning.specs.Fit.{view_of}
@@ -16,6 +18,7 @@ use Rattle.mdr_mem.specs.Contents.{Contents, current, handle_of, is_handle, wire
 use Rattle.mdr_track.specs.Pairs.{Pairs, no_pairs}
 use Rattle.mdr_track.specs.Pointers.{addressed, pointer}
 use Rattle.mdr_user_memory.specs.declared.newborn.Newborn.{Newborn}
+use Rattle.mdr_user_memory.specs.Beginning.{ArePaired, IsSized, MayCome}
 use Rattle.mdr_user_memory.specs.Paired.{IsLinked, Paired, is_paired, told, told_all}
 use Rattle.mdr_user_memory.specs.Taking.{Moves, block_of}
 use Rattle.mdr_user_memory.proofs.HandleLaws.{born_at-append, cell_at-append}
@@ -38,7 +41,20 @@ placed_is r ps (wire.Fn f) l h = refl
 placed_is r ps (wire.Lock s) l h = refl
 placed_is r ps wire.NoValue l h = refl
 
+-- where pointers name blocks of the copy, their blocks are paired
+pub named_paired : (m : Memory) (r : Contents) (ps : Pairs) (ws : List Wire) → Paired m r ps → MayCome m ws → ArePaired ps ws
+named_paired m r ps ws p come i (wire.Ptr v) e = sym (p.twin.live v.serial) ∙ come.earlier i v e
+named_paired m r ps ws p come i (wire.Int k n) e = refl
+named_paired m r ps ws p come i wire.Null e = refl
+named_paired m r ps ws p come i wire.Dead e = refl
+named_paired m r ps ws p come i (wire.Fn f) e = refl
+named_paired m r ps ws p come i (wire.Lock s) e = refl
+named_paired m r ps ws p come i wire.NoValue e = refl
+
 -- ---- a block more
+
+pub first_sized : (hs : List Block) (ps : Pairs) (vs : List Value) (ws : List Wire) → told_all hs ps vs ≡ ws → IsSized (length ws) → IsSized (length vs)
+first_sized hs ps vs ws e s = subst IsSized (sym (ap length e) ∙ length-map (map (wire_in hs) vs) (told hs ps) ∙ length-map vs (wire_in hs)) s
 
 absent : {m : Memory} {r : Contents} {ps : Pairs} (s : ℕ) → Paired m r ps → ps.user_of s ≡ None → is_live m s ≡ false
 absent s p e = p.twin.live s ∙ ap is_some e

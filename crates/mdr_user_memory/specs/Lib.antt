@@ -5,3 +5,4 @@ pub mod Taking
 pub mod Within
 pub mod Lived
 pub mod Kept
+pub mod Beginning

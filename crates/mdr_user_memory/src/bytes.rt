@@ -5,7 +5,7 @@ ghost use Rattle.std.specs.List.{list_all};
 ghost use Rattle.mdr_meaning.specs.declared.wire.Wire.TheVariants as wire;
 ghost use Rattle.mdr_meaning.specs.Values.{natural_of, wire_of, wire_view};
 ghost use Rattle.mdr_model.specs.Sets.{cells_from, is_in};
-ghost use Rattle.mdr_plain.specs.Storage.{byte_at, number_in, read};
+ghost use Rattle.mdr_plain.specs.Storage.{byte_at, number_in, read, saturated_u8};
 ghost use Rattle.mdr_user_memory.specs.Spots.{bytes_if};
 
 use crate::seen_memory::SeenMemory;
@@ -14,27 +14,26 @@ use mdr_copy::CellList;
 use mdr_core::{Items, StopKind, Value, View};
 use std::alloc::{AllocError, Global};
 
-/// A byte. A number that none is answers want of memory: what is read as bytes holds no such number.
-fn byte_of(n: i128) -> Result<u8, AllocError>
-    ensures { IfOk result (λ b. b ≡ natural_of n) }
+/// A number as a byte: the greatest one where it is greater.
+fn byte_of(n: i128) -> u8
+    ensures { result ≡ saturated_u8 (natural_of n) }
 {
     if n < 0 {
-        Ok(0)
-    } else {
-        match u8::try_from(n) {
-            Ok(b) => Ok(b),
-            Err(_) => Err(AllocError),
-        }
+        return 0;
     }
+    if n > 255 {
+        return 255;
+    }
+    n as u8
 }
 
-fn byte_in(held: Option<Value>) -> Result<u8, AllocError>
-    ensures { IfOk result (λ b. b ≡ number_in (option_map wire_of held)) }
+fn byte_in(held: Option<Value>) -> u8
+    ensures { result ≡ number_in (option_map wire_of held) }
 {
     match held {
         Some(Value::Int(_, n)) => byte_of(n),
-        Some(_) => Ok(0),
-        None => Ok(0),
+        Some(_) => 0,
+        None => 0,
     }
 }
 
@@ -54,7 +53,7 @@ fn bytes_from(
             serial,
             index: first + i as usize,
         });
-        bytes.push(byte_in(held)?)?;
+        bytes.push(byte_in(held))?;
     }
     Ok(bytes)
 }

@@ -1,10 +1,11 @@
 // Blocks of one's own for those of a copy.
 
-ghost use Rattle.std.specs.Prelude.{◌≡◌, ◌<◌, ◌≤◌, ◌++◌, ◌∷◌, [], None, length, IfOk, IsTrue, OnOk};
+ghost use Rattle.std.specs.Prelude.{◌≡◌, ◌++◌, ◌∷◌, [], true, None, length, IfOk, OnOk};
 ghost use Rattle.mdr_model.specs.Agreement.{SerialsRise};
 ghost use Rattle.mdr_model.specs.Memory.{Memory};
 ghost use Rattle.mdr_mem.specs.Contents.{wire_in};
 ghost use Rattle.mdr_track.specs.Tracked.{pairs_of};
+ghost use Rattle.mdr_user_memory.specs.Beginning.{ArePaired, ComeInOrder, IsSized};
 ghost use Rattle.mdr_user_memory.specs.Lived.{HasLived, LivesIn, born, lived_of};
 ghost use Rattle.mdr_user_memory.specs.Paired.{IsLinked, Paired, is_paired, told, told_all};
 ghost use Rattle.mdr_user_memory.specs.Taking.{FitsOne, Moves};
@@ -26,31 +27,13 @@ pub struct Twins {
     pub pairs: Tracker,
 }
 
-/// Whether a value is no pointer, or one to a block that is paired.
-fn is_paired(pairs: &Tracker, wire: Wire) -> bool
-    ensures { result ≡ is_paired (pairs_of pairs.now) wire }
+/// A value of the copy, as it is put into a cell.
+fn placed(region: &Region, pairs: &Tracker, wire: Wire) -> Value
+    requires linked { IsLinked region.now.contents (pairs_of pairs.now) }
+    requires paired { is_paired (pairs_of pairs.now) wire ≡ true }
+    ensures { told region.now.contents.handles (pairs_of pairs.now) (wire_in region.now.contents.handles result) ≡ wire }
 {
-    match wire {
-        Wire::Ptr(view) => pairs.user_of(view.serial).is_some(),
-        Wire::Int(_, _) => true,
-        Wire::Null => true,
-        Wire::Dead => true,
-        Wire::Fn(_) => true,
-        Wire::Lock(_) => true,
-        Wire::NoValue => true,
-    }
-}
-
-/// A value of the copy, as it is put into a cell. A pointer to a block that isn't paired fails.
-fn placed(region: &Region, pairs: &Tracker, wire: Wire) -> Result<Value, OutOfMemory>
-    requires { IsLinked region.now.contents (pairs_of pairs.now) }
-    ensures { IfOk result (λ v. told region.now.contents.handles (pairs_of pairs.now) (wire_in region.now.contents.handles v) ≡ wire) }
-{
-    if is_paired(pairs, wire) {
-        Ok(pairs.addressed(value_of(wire)))
-    } else {
-        Err(OutOfMemory::unmet())
-    }
+    pairs.addressed(value_of(wire))
 }
 
 fn all_placed(
@@ -59,34 +42,25 @@ fn all_placed(
     pairs: &Tracker,
     wires: &[Wire],
 ) -> Result<Items<Value>, OutOfMemory>
-    requires { IsLinked region.now.contents (pairs_of pairs.now) }
+    requires linked { IsLinked region.now.contents (pairs_of pairs.now) }
+    requires paired { ArePaired (pairs_of pairs.now) wires.now }
     ensures { IfOk result (λ vs. told_all region.now.contents.handles (pairs_of pairs.now) vs ≡ wires.now) }
 {
     let mut values = Items::new(alloc);
     for wire in wires {
-        values.push(placed(region, pairs, *wire)?)?;
+        values.push(placed(region, pairs, *wire))?;
     }
     Ok(values)
 }
 
-/// Whether a block has as many cells as one may have.
-fn is_sized(new: &Newborn) -> bool
-    ensures { IsTrue result → (0 < length new.now.first) × (length new.now.first ≤ 65536) }
-{
-    let cells = new.first.len();
-    0 < cells && cells <= 65536
-}
-
 /// Makes room for one more.
 fn make_room(region: &mut Region, pairs: &mut Tracker, new: &Newborn) -> Result<(), OutOfMemory>
-    requires { (pairs_of pairs.old).user_of new.now.born.serial ≡ None }
+    requires sized { IsSized (length new.now.first) }
+    requires new { (pairs_of pairs.old).user_of new.now.born.serial ≡ None }
     ensures contents { region.new.contents ≡ region.old.contents }
     ensures pairs { pairs_of pairs.new ≡ pairs_of pairs.old }
     ensures fits { OnOk result (FitsOne new.now (pairs_of pairs.new) region.new.cells region.new.births pairs.new.room) }
 {
-    if !is_sized(new) {
-        return Err(OutOfMemory::unmet());
-    }
     region.reserve(new.first.len() as u64, 1)?;
     pairs.reserve(1)?;
     Ok(())
@@ -101,6 +75,8 @@ fn add(
 ) -> Result<(), OutOfMemory>
     requires linked { IsLinked region.old.contents (pairs_of pairs.old) }
     requires new { (pairs_of pairs.old).user_of block.now.born.serial ≡ None }
+    requires sized { IsSized (length block.now.cells) }
+    requires paired { ArePaired (pairs_of pairs.old) block.now.cells }
     ensures moves { OnOk result (Moves (λ (m : Memory). m ++ block.now ∷ []) region.old.contents (pairs_of pairs.old) region.new.contents (pairs_of pairs.new)) }
     ensures lived { OnOk result (LivesIn (born block.now.born.serial (length block.now.cells)) region.old pairs.old region.new pairs.new) }
 {
@@ -118,9 +94,10 @@ fn add(
     }
 }
 
-/// A memory that goes with a copy whose serials rise.
+/// A memory that goes with a copy whose serials rise, and in which each block may stand behind those before it.
 pub(crate) fn twins_of(alloc: Global, copy: &[MemoryBlock]) -> Result<Twins, OutOfMemory>
-    requires { SerialsRise copy.now }
+    requires rises { SerialsRise copy.now }
+    requires ordered { ComeInOrder copy.now }
     ensures paired { IfOk result (λ t. Paired copy.now t.region.contents (pairs_of t.pairs)) }
     ensures lived { IfOk result (λ t. HasLived (lived_of copy.now) t.region.contents.lives (pairs_of t.pairs)) }
 {

@@ -176,9 +176,9 @@ impl Memory for SeenMemory {
         read(self, alloc, pointer, count)
     }
 
-    /// User code asks for births by a service. So here none is made, and the answer is want of memory.
-    fn birth(&mut self, _alloc: Global, _shapes: &[Shape64]) -> Result<Items<Value>, AllocError> {
-        Err(AllocError)
+    /// User code asks for births by a service. So here none is made.
+    fn birth(&mut self, alloc: Global, _shapes: &[Shape64]) -> Result<Items<Value>, AllocError> {
+        Ok(Items::new(alloc))
     }
 
     /// So it does for deaths.

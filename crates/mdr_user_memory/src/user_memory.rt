@@ -5,6 +5,7 @@ ghost use Rattle.mdr_model.specs.Agreement.{SerialsRise};
 ghost use Rattle.mdr_model.specs.Copies.{put_runs, values_of_runs};
 ghost use Rattle.mdr_model.specs.User.{lives_fit, renewed_copy};
 ghost use Rattle.mdr_track.specs.Tracked.{pairs_of};
+ghost use Rattle.mdr_user_memory.specs.Beginning.{ComeInOrder};
 ghost use Rattle.mdr_user_memory.specs.Copied.{copied};
 ghost use Rattle.mdr_user_memory.specs.Kept.{IsKept, IsLived, LivesTo, kept, past_in};
 ghost use Rattle.mdr_user_memory.specs.Lived.{lived_by, lived_of};
@@ -67,10 +68,11 @@ impl UserMemory {
         user_memory(RisingBlocks::new(alloc), region, pairs)
     }
 
-    /// The memory of a copy whose serials rise, in whose order its blocks are born. Where a cell points to a block that comes later, that answers want of
-    /// memory.
+    /// The memory of a copy whose serials rise, and in which each block has from 1 to 65,536 cells and points to blocks
+    /// before it alone. Its blocks are born in the copy's order.
     pub fn of_copy(alloc: Global, copy: RisingBlocks) -> Result<UserMemory, OutOfMemory>
-        requires { SerialsRise copy }
+        requires rises { SerialsRise copy }
+        requires ordered { ComeInOrder copy }
         ensures copy { IfOk result (λ u. u.agreed ≡ copy) }
         ensures lived { IfOk result (IsLived (lived_of copy)) }
     {

@@ -28,7 +28,7 @@ use Rattle.mdr_split.specs.Fits.{fits, fits_result}
 use Rattle.mdr_split.specs.Law.{RepliesNeedTheUserText}
 use Rattle.mdr_split.specs.Legal.{args_fault, params_of, result_of}
 use Rattle.mdr_split.specs.Services.{leaving, results_fit}
-use Rattle.mdr_split.specs.User.{AwaitsAnswer, AwaitsBack, Delivered, Nothing, Opened, Runs, User, Work, answer_fits, back_fits, call_fits, cells_fit, deliver, done, entered_behind, first_user, grown, may_show, objects_fit, opened, runs_fit, user_after, user_places, user_reply, view_fits, when_fits}
+use Rattle.mdr_split.specs.User.{AwaitsAnswer, AwaitsBack, Delivered, Down, Nothing, Opened, Runs, User, Work, answer_fits, back_fits, begun, call_fits, cells_fit, deliver, done, entered_behind, first_user, grown, is_deeper, may_show, objects_fit, opened, runs_fit, user_after, user_places, user_reply, view_fits, when_fits}
 use Rattle.mdr_watched.specs.Driver.{Driver, driver_of, is_user, touched_by}
 use Rattle.mdr_user_text.proofs.Headings.{heading, same_params, same_result, with_funcs}
 use Rattle.mdr_user_text.proofs.SameViews.{both}
@@ -78,11 +78,12 @@ module _ (d : Driver) (funcs : List Func) (kernel : Side) (headings : (f : ℕ) 
       ∙ ap (λ (ty : Ty). fits_result (user_places d copy) ty v) (same_result (slice_get funcs func) (slice_get d.program.funcs func) (headings func))
       ∙ ap (λ (m : Memory). fits_result (user_places d m) (result_of (slice_get d.program.funcs func)) v) same
 
-  same_call : (copy : Memory) (entered : List ℕ) (func depth : ℕ) (args : List Wire) (told : Told) → call_fits alone copy entered func depth args told ≡ call_fits d copy entered func depth args told
+  same_call : (copy : Memory) (entered : List ℕ) (below : List Down) (func depth : ℕ) (args : List Wire) (told : Told)
+      → call_fits alone copy entered below func depth args told ≡ call_fits d copy entered below func depth args told
   unfolding call_fits
-  same_call copy entered func depth args told =
+  same_call copy entered below func depth args told =
       let renewed = same_renewed d.program funcs told.deaths told.news copy in
-      ap (λ (b : Bool). is_user d.plan func && (nat_le depth 255 && b))
+      ap (λ (b : Bool). is_deeper below depth && (is_user d.plan func && (nat_le depth 255 && b)))
       (both _ _ _ _ (same_lives d.program funcs copy told.deaths told.news)
       (ap (λ (b : Bool). objects_fit [] told.deaths entered && b)
       (both _ _ _ _ (same_args_fit func _ _ args renewed) (same_cells_fit func _ _ told.view told.runs renewed))))
@@ -110,23 +111,30 @@ module _ (d : Driver) (funcs : List Func) (kernel : Side) (headings : (f : ℕ) 
       ap (λ (cs : List Cell). filter (still_live copy) seen ++ cs) (same_news_cells d.program funcs (touched_by d.plan stub) news)
       ∙ ap (λ (m : Memory). grown d stub m news seen) same
 
+  same_begun : (fuel : ℕ) (copy : Memory) (entered : List ℕ) (below : List Down) (func depth rest : ℕ) (args : List Wire) (told : Told)
+      → begun alone fuel copy entered below func depth rest args told ≡ begun d fuel copy entered below func depth rest args told
+  same_begun fuel copy entered below func depth rest args told =
+      same_when _ _ _ _ (same_call copy entered below func depth args told)
+      (ap (λ (m : Memory). Runs (started d.user fuel func args depth Tree.Idle) rest func entered (cells_of_runs told.view) m below) (same_agreed d.program funcs told copy))
+
   same_opened : (fuel : ℕ) (copy : Memory) (entered : List ℕ) (work : Work) (x : Message) → opened alone fuel copy entered work x ≡ opened d fuel copy entered work x
   unfolding opened
   same_opened fuel copy entered Nothing (message.Call func depth rest args told) =
-      same_when _ _ _ _ (same_call copy entered func depth args told)
-      (ap (λ (m : Memory). Runs (started d.user fuel func args depth Tree.Idle) rest func entered (cells_of_runs told.view) m) (same_agreed d.program funcs told copy))
+      same_begun fuel copy entered [] func depth rest args told
   same_opened fuel copy entered Nothing _ = refl
-  same_opened fuel copy entered (AwaitsBack stub func seen goes) (message.Back rest result told) =
-      same_when _ _ _ _ (same_back copy entered stub func result told)
-      (ap (λ (m : Memory). Runs (goes result) rest stub entered (cells_of_runs told.view) m) (same_agreed d.program funcs told copy))
-  same_opened fuel copy entered (AwaitsBack stub func seen goes) _ = refl
-  same_opened fuel copy entered (AwaitsAnswer stub asked seen left goes) (message.Answer results deaths news) =
+  same_opened fuel copy entered (AwaitsBack down below) (message.Call func depth rest args told) =
+      same_begun fuel copy entered (down ∷ below) func depth rest args told
+  same_opened fuel copy entered (AwaitsBack down below) (message.Back rest result told) =
+      same_when _ _ _ _ (same_back copy entered down.stub down.func result told)
+      (ap (λ (m : Memory). Runs (down.goes result) rest down.stub entered (cells_of_runs told.view) m below) (same_agreed d.program funcs told copy))
+  same_opened fuel copy entered (AwaitsBack down below) _ = refl
+  same_opened fuel copy entered (AwaitsAnswer stub asked seen left goes below) (message.Answer results deaths news) =
       let renewed = same_renewed d.program funcs deaths news copy in
       let lives : List ℕ = entered_behind asked.service deaths news entered in
       same_when _ _ _ _ (same_answer copy entered asked results deaths news)
-      (ap (λ (view : List Cell). Runs (goes results) left stub lives view (renewed_copy alone.program deaths news copy)) (same_grown stub _ _ news seen renewed)
-      ∙ ap (λ (m : Memory). Runs (goes results) left stub lives (grown d stub (renewed_copy d.program deaths news copy) news seen) m) renewed)
-  same_opened fuel copy entered (AwaitsAnswer stub asked seen left goes) _ = refl
+      (ap (λ (view : List Cell). Runs (goes results) left stub lives view (renewed_copy alone.program deaths news copy) below) (same_grown stub _ _ news seen renewed)
+      ∙ ap (λ (m : Memory). Runs (goes results) left stub lives (grown d stub (renewed_copy d.program deaths news copy) news seen) m below) renewed)
+  same_opened fuel copy entered (AwaitsAnswer stub asked seen left goes below) _ = refl
 
   -- ---- messages in turn
 

@@ -12,8 +12,6 @@ mod put;
 mod reader;
 mod reading;
 mod split;
-#[cfg(test)]
-mod tests;
 mod transcript;
 mod unread;
 mod verdict;

@@ -1,16 +1,39 @@
 -- The code of each half, by the halves of a plan.
-use Rattle.std.proofs.Common.{◌≡◌, ℕ, zero, suc, true, false, not, List, [], ◌∷◌, length, Option, Some, None, refl, sym, ap}
-use Rattle.std.specs.Prelude.{slice_get}
+use Rattle.std.proofs.Common.{◌≡◌, ℕ, zero, suc, true, false, not, List, [], ◌∷◌, length, Option, Some, None, refl, sym, ap, ◌∙◌}
+use Rattle.std.specs.Prelude.{is_some, slice_get}
+use Rattle.mdr_core.specs.declared.code.Stmt.{Stmt}
 use Rattle.mdr_core.specs.declared.plan.Half.{Half}
 use Rattle.mdr_core.specs.declared.plan.Half.TheVariants as half
 use Rattle.mdr_core.specs.declared.plan.Plan.{Plan}
+use Rattle.mdr_core.specs.declared.program.Func.{Func}
 use Rattle.mdr_core.specs.declared.program.Program.{Program}
 use Rattle.mdr_core.specs.Layout.{chosen}
 use Rattle.mdr_exec.specs.declared.frame.Side.TheVariants as which
 use Rattle.mdr_exec.specs.Halves.{is_kernel_half, side_in}
-use Rattle.mdr_meaning.specs.Bodies.{body_from, body_of, kernel_side, user_side}
+use Rattle.mdr_meaning.specs.Bodies.{body_by, body_from, body_of, kernel_side, user_side}
 use Rattle.mdr_meaning.specs.Sides.{Body}
 use Rattle.mdr_watched.specs.Driver.{driver_of, is_user, is_user_half}
+use Rattle.mdr_watch.specs.Watching.{HaveBodies}
+
+-- a function with statements has a body
+its_body : (program : Program) (func : ℕ) (f : Func) (body : List Stmt) → slice_get program.funcs func ≡ Some f → f.body ≡ Some body → (x : Body) × (body_of program func ≡ Some x)
+unfolding body_of
+its_body program func f body there has = (_, ap body_from there ∙ ap (body_by f) has)
+
+a_body : (o : Option (List Stmt)) → is_some o ≡ true → (body : List Stmt) × (o ≡ Some body)
+a_body None h = absurd cc
+a_body (Some body) h = (body, refl)
+
+a_half : (o : Option Half) → is_user_half o ≡ true → (h : Half) × (o ≡ Some h)
+a_half None u = absurd cc
+a_half (Some h) u = (h, refl)
+
+-- what is in one list is in the other
+there_both : {A B : Type 0} (xs : List A) (ys : List B) (f : ℕ) (x : A) → length xs ≡ length ys → slice_get xs f ≡ Some x → (y : B) × (slice_get ys f ≡ Some y)
+there_both [] ys f x e is = absurd cc
+there_both (w ∷ xs) [] f x e is = absurd cc
+there_both (w ∷ xs) (y ∷ ys) zero x e is = (y, refl)
+there_both (w ∷ xs) (y ∷ ys) (suc f) x e is = let s : length xs ≡ length ys = cc in there_both xs ys f x s is
 
 -- past the end of one list is past the end of the other
 past_both : {A B : Type 0} (xs : List A) (ys : List B) (f : ℕ) → length xs ≡ length ys → slice_get xs f ≡ None → slice_get ys f ≡ None
@@ -61,3 +84,11 @@ module _ (program : Program) (plan : Plan) (fit : length plan.halves ≡ length 
   pub user_body : (f : ℕ) → is_user plan f ≡ true → (driver_of program plan).user.own f ≡ body_of program f
   unfolding user_side
   user_body f u = own_user f (slice_get plan.halves f) refl u
+
+  -- it has one, where each function has one
+  pub user_has_body : HaveBodies program → (f : ℕ) → is_user plan f ≡ true → (body : Body) × (body_of program f ≡ Some body)
+  user_has_body bodies f u =
+      let h = a_half (slice_get plan.halves f) u in
+      let there = there_both plan.halves program.funcs f h.0 fit h.1 in
+      let has = a_body there.0.body (bodies f there.0 there.1) in
+      its_body program f there.0 has.0 there.1 has.1

@@ -1,9 +1,7 @@
 -- A machine that runs user code goes from event to event.
 use Rattle.std.proofs.Common.{◌≡◌, ℕ, ◌+◌, ◌≤◌, Bool, true, false, List, [], ◌∷◌, Option, Some, slice_get, refl, sym, ◌∙◌, ap, subst, le_refl, arith}
-use Rattle.mdr_core.specs.declared.code.Stmt.{Stmt}
 use Rattle.mdr_core.specs.declared.place.At.{At}
 use Rattle.mdr_core.specs.declared.plan.Half.{Half}
-use Rattle.mdr_core.specs.declared.program.Func.{Func}
 use Rattle.mdr_core.specs.declared.program.Program.{Program}
 use Rattle.mdr_core.specs.declared.stop.StopKind.{StopKind}
 use Rattle.mdr_core.specs.declared.stop.StopKind.TheVariants as stop
@@ -24,9 +22,9 @@ use Rattle.mdr_exec.specs.Halves.{side_in}
 use Rattle.mdr_exec.specs.Holding.{Takes, held_of}
 use Rattle.mdr_exec.proofs.ReadyLaws.{ran_leaves, takes_all}
 use Rattle.mdr_meaning.specs.declared.wire.Wire.{Wire}
-use Rattle.mdr_meaning.specs.Bodies.{body_by, body_from, body_of, started}
+use Rattle.mdr_meaning.specs.Bodies.{body_of, started}
 use Rattle.mdr_meaning.specs.Cut.{cut}
-use Rattle.mdr_meaning.specs.Sides.{Body, Side}
+use Rattle.mdr_meaning.specs.Sides.{Side}
 use Rattle.mdr_meaning.specs.Tree.{Tree}
 use Rattle.mdr_meaning.specs.Values.{wire_of}
 use Rattle.mdr_meaning.specs.Walk.{Walked, walk, walked}
@@ -222,7 +220,3 @@ is_started u args m0 m none own is ready = record {
   by = λ f r less. is (user_side u) own f r less ∙ ap (λ t. cut r (started (user_side u) (f + 1) u.func args 0 t)) (none f r);
   ready = ready;
 }
-
-pub its_body : (program : Program) (func : ℕ) (f : Func) (body : List Stmt) → slice_get program.funcs func ≡ Some f → f.body ≡ Some body → (x : Body) × (body_of program func ≡ Some x)
-unfolding body_of
-its_body program func f body there has = (_, ap body_from there ∙ ap (body_by f) has)

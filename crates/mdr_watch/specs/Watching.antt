@@ -1,9 +1,10 @@
 -- protocol
 -- The driver that is watched.
-use Rattle.std.specs.Prelude.{◌≡◌, false, length, ℕ, List, [], Result}
+use Rattle.std.specs.Prelude.{◌≡◌, true, false, length, ℕ, List, [], Some, Result, is_some, slice_get}
 use Rattle.mdr_core.specs.declared.plan.Key.{Key}
 use Rattle.mdr_bound.specs.declared.bound.Bound.{Bound}
 use Rattle.mdr_core.specs.declared.plan.Plan.{Plan}
+use Rattle.mdr_core.specs.declared.program.Func.{Func}
 use Rattle.mdr_core.specs.declared.program.Program.{Program}
 use Rattle.mdr_events.specs.declared.event.Asked.{Asked as Question}
 use Rattle.mdr_events.specs.declared.event.Crossing.{Crossing}
@@ -30,6 +31,10 @@ driver_in w = driver_of w.program.now w.plan.now
 -- each function has a half
 abbrev pub IsFit : Watch → Type 0
 IsFit w = length w.plan.now.halves ≡ length w.program.now.funcs
+
+-- each function has a body
+abbrev pub HaveBodies : Program → Type 0
+HaveBodies program = (f : ℕ) (func : Func) → slice_get program.funcs f ≡ Some func → is_some func.body ≡ true
 
 -- a command in which no function of the user half is called
 abbrev pub IsKernel : Plan → Command → Type 0

@@ -10,7 +10,7 @@ ghost use Rattle.mdr_watched.specs.Watched.{does_with, held, kernel_of, may_not}
 ghost use Rattle.mdr_whole.specs.Ending.{gave_as, worked_as};
 ghost use Rattle.mdr_world.specs.Driven.{driver};
 ghost use Rattle.mdr_watch.specs.Leaving.{EndsFor, WorkedFor};
-ghost use Rattle.mdr_watch.specs.Watching.{IsFit, IsKernel, driver_in};
+ghost use Rattle.mdr_watch.specs.Watching.{HaveBodies, IsFit, IsKernel, driver_in};
 
 use crate::next::Closed;
 use crate::upcall::call_user;
@@ -79,6 +79,7 @@ fn upcall_command<'a>(
 ) -> Result<Did<'a>, OutOfMemory>
     requires sound { IsSound watch.program.now }
     requires fit { IsFit watch }
+    requires bodies { HaveBodies watch.program.now }
     requires same { world.program ≡ watch.program.now }
     requires alone { world.world.views ≡ [] }
     requires user { is_user_in watch.plan.now func ≡ true }
@@ -127,6 +128,7 @@ fn do_watched<'a>(
 ) -> Result<Did<'a>, OutOfMemory>
     requires sound { IsSound watch.program.now }
     requires fit { IsFit watch }
+    requires bodies { HaveBodies watch.program.now }
     requires same { world.program ≡ watch.program.now }
     requires alone { world.world.views ≡ [] }
     ensures kept { IfOk result (λ r. r.world.program ≡ watch.entry.program.now) }
@@ -157,6 +159,7 @@ pub(crate) fn do_commands<'a>(
 ) -> Result<Did<'a>, OutOfMemory>
     requires sound { IsSound watch.program.now }
     requires fit { IsFit watch }
+    requires bodies { HaveBodies watch.program.now }
     requires same { world.program ≡ watch.program.now }
     requires alone { world.world.views ≡ [] }
     ensures kept { IfOk result (λ r. r.world.program ≡ watch.entry.program.now) }

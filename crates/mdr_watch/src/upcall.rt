@@ -1,12 +1,10 @@
 // A function of the user half is called.
 
-ghost use Rattle.std.specs.Prelude.{◌≡◌, [], Some, true, IfOk, IsTrue};
+ghost use Rattle.std.specs.Prelude.{◌≡◌, [], true, IfOk};
 ghost use Rattle.mdr_core.specs.Sound.{IsSound};
 ghost use Rattle.mdr_events.specs.Ready.{IsReady};
 ghost use Rattle.mdr_events.specs.Values.{wires_of};
 ghost use Rattle.mdr_exec.specs.Holding.{held_of};
-ghost use Rattle.mdr_meaning.specs.Bodies.{body_of};
-ghost use Rattle.mdr_meaning.specs.Sides.{Body};
 ghost use Rattle.mdr_reach.specs.Answers.{answered};
 ghost use Rattle.mdr_viewed.specs.Viewed.{IsOlder};
 ghost use Rattle.mdr_watched.specs.Driver.{is_user};
@@ -14,44 +12,28 @@ ghost use Rattle.mdr_watched.specs.Order.{AreLive};
 ghost use Rattle.mdr_watched.specs.Watched.{closing, held, may_not, upcall as up};
 ghost use Rattle.mdr_watch.specs.Going.{IsStarted, user_does};
 ghost use Rattle.mdr_watch.specs.Leaving.{GaveFor};
-ghost use Rattle.mdr_watch.specs.Watching.{IsFit, begins_with, driver_in, entered_in};
+ghost use Rattle.mdr_watch.specs.Watching.{HaveBodies, IsFit, begins_with, driver_in, entered_in};
 
 use crate::guarded::Guarded;
 use crate::next::Closed;
 use crate::roots::entry_roots;
 use crate::turn::run;
-use crate::watch::{Upcall, func_at, touched};
+use crate::watch::{Upcall, touched};
 use mdr_cells::CellSet;
-use mdr_core::{At, OutOfMemory, Program, StopKind, Value};
+use mdr_core::{At, OutOfMemory, StopKind, Value};
 use mdr_exec::{Machine, Side};
 use mdr_reach::{Failing, visible};
 use mdr_whole::Gave;
 use mdr_world::World;
 use std::alloc::Global;
 
-/// Whether a function has a body.
-#[tactic(auto, unfolding(mdr_meaning::specs::Bodies::body_of))]
-fn has_body(program: &Program, func: u32) -> bool
-    ensures { IsTrue result → (body : Body) × (body_of program.now func ≡ Some body) }
-{
-    match func_at(program, func) {
-        Some(func) => match &func.body {
-            Some(_) => true,
-            None => false,
-        },
-        None => false,
-    }
-}
-
 /// A machine in which the function was started, as the first one that is active.
 fn started(alloc: Global, upcall: Upcall, args: &[Value]) -> Result<Machine, OutOfMemory>
     requires fit { IsFit upcall.watch }
+    requires bodies { HaveBodies upcall.watch.program.now }
     requires user { is_user upcall.watch.plan.now upcall.func ≡ true }
     ensures { IfOk result (λ m. IsStarted upcall.entry (wires_of args.now) m) }
 {
-    if !has_body(upcall.watch.program, upcall.func) {
-        return Err(OutOfMemory::unmet());
-    }
     let mut machine = Machine::new(alloc, Side::User);
     machine.start(alloc, upcall.watch.program, upcall.func, args, 0)?;
     Ok(machine)
@@ -98,6 +80,7 @@ fn enter<'a>(
 ) -> Result<Closed<'a>, OutOfMemory>
     requires sound { IsSound upcall.watch.program.now }
     requires fit { IsFit upcall.watch }
+    requires bodies { HaveBodies upcall.watch.program.now }
     requires user { is_user upcall.watch.plan.now upcall.func ≡ true }
     requires same { world.program ≡ upcall.watch.program.now }
     requires alone { world.world.views ≡ [] }
@@ -138,8 +121,7 @@ pub fn first_set(
     Ok(taken)
 }
 
-/// It is called, while no other one of the user half is active: its set is taken, from its arguments and the globals. A
-/// function without a body answers want of memory.
+/// It is called, while no other one of the user half is active: its set is taken, from its arguments and the globals.
 #[tactic(auto, unfolding(mdr_watched::specs::Watched::upcall))]
 pub(crate) fn call_user<'a>(
     alloc: Global,
@@ -149,6 +131,7 @@ pub(crate) fn call_user<'a>(
 ) -> Result<Closed<'a>, OutOfMemory>
     requires sound { IsSound upcall.watch.program.now }
     requires fit { IsFit upcall.watch }
+    requires bodies { HaveBodies upcall.watch.program.now }
     requires user { is_user upcall.watch.plan.now upcall.func ≡ true }
     requires same { world.program ≡ upcall.watch.program.now }
     requires alone { world.world.views ≡ [] }

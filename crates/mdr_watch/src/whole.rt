@@ -5,7 +5,7 @@ ghost use Rattle.mdr_core.specs.Sound.{IsSound};
 ghost use Rattle.mdr_plain.specs.Outcome.{outcome_of};
 ghost use Rattle.mdr_plain.specs.Scripts.{finish};
 ghost use Rattle.mdr_whole.specs.Ending.{end_of};
-ghost use Rattle.mdr_watch.specs.Watching.{watched_apart};
+ghost use Rattle.mdr_watch.specs.Watching.{HaveBodies, watched_apart};
 
 use crate::commands::{Did, do_commands};
 use crate::watch::Watch;
@@ -50,6 +50,7 @@ pub fn run_watched(
 ) -> Result<Outcome, OutOfMemory>
     requires sound { IsSound program.now }
     requires fit { length plan.now.halves ≡ length program.now.funcs }
+    requires bodies { HaveBodies program.now }
     ensures { IfOk result (λ o. o ≡ outcome_of program.now (watched_apart program.now plan.now script.now ticks)) }
 {
     let watch = Watch { program, plan };

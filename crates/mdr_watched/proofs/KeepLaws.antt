@@ -16,7 +16,7 @@ use Rattle.mdr_core.specs.declared.value.LockState.{LockState}
 use Rattle.mdr_core.specs.declared.value.Value.{Value}
 use Rattle.mdr_extents.specs.Reaching.{Failing, Roots, visible}
 use Rattle.mdr_meaning.specs.Tree.{Asked, Tree}
-use Rattle.mdr_meaning.specs.Values.{first_of, natural, rest_of}
+use Rattle.mdr_meaning.specs.Values.{first_of, natural, rest_of, saturated_u32}
 use Rattle.mdr_model.specs.declared.command.Command.{Command}
 use Rattle.mdr_model.specs.declared.command.Command.TheVariants as command
 use Rattle.mdr_model.specs.declared.message.BirthKind.{BirthKind}
@@ -164,7 +164,7 @@ module _ (P : World → Type 0) (kept : IsKept P) where
   served_by_keeps program a (Some Kcalloc) w e = allocated_keeps program a.shapes _ (kept.keeping w _ e)
   served_by_keeps program a (Some Kfree) w e = freed_keeps program a.at _ w e
   served_by_keeps program a (Some Readl) w e = read_keeps a.at (natural (first_of a.args)) w e
-  served_by_keeps program a (Some Writel) w e = written_keeps a.at (natural (first_of (rest_of a.args))) (natural (first_of a.args)) w e
+  served_by_keeps program a (Some Writel) w e = written_keeps a.at (natural (first_of (rest_of a.args))) (saturated_u32 (natural (first_of a.args))) w e
   served_by_keeps program a (Some Printk) w e = so (kept.keeping w _ e)
   served_by_keeps program a (Some RequestIrq) w e = requested_keeps w.kept.handler _ w e
   served_by_keeps program a (Some FreeIrq) w e = so (kept.keeping w _ e)

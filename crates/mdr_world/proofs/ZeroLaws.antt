@@ -1,8 +1,11 @@
 -- The zeros of objects.
-use Rattle.std.proofs.Common.{◌≡◌, ◌<◌, ◌-◌, ℕ, zero, suc, List, [], ◌∷◌, ◌++◌, drop, map, Some, refl, sym, ◌∙◌, ap, arith}
+use Rattle.std.proofs.Common.{◌≡◌, ◌<◌, ◌≤◌, ◌-◌, ℕ, zero, suc, List, [], ◌∷◌, ◌++◌, drop, length, map, Option, Some, refl, sym, ◌∙◌, ap, arith}
 use Rattle.std.specs.Prelude.{option_map, slice_get}
 use Rattle.std.proofs.lemmas.List.{append_assoc, map-append}
-use Rattle.mdr_core.specs.Layout.{Leaf, repeated, zero_value}
+use Rattle.std.proofs.lemmas.Option.{slice_get_past}
+use Rattle.mdr_core.specs.Layout.{Leaf, cells_at, cells_or, repeated, zero_value}
+use Rattle.mdr_core.specs.declared.program.Program.{Program}
+use Rattle.mdr_core.specs.declared.types.Ty.{Ty}
 use Rattle.mdr_core.specs.declared.value.Value.{Value}
 use Rattle.mdr_meaning.specs.Values.{wire_of}
 use Rattle.mdr_model.specs.Memory.{zero_of}
@@ -21,6 +24,16 @@ zeros-repeated (suc n) ls =
     map-append wire_of (map zero_in ls) (repeated n (map zero_in ls))
     ∙ (λ i. zero-wires ls i ++ zeros-repeated n ls i)
     ∙ sym (map-append zero_of ls (repeated n ls))
+
+-- a type past the table has no cells
+none_repeated : (n : ℕ) → ◌≡◌ {A = List Leaf} (repeated n []) []
+unfolding repeated
+none_repeated zero = refl
+none_repeated (suc n) = none_repeated n
+
+pub none_past : (program : Program) (ty count : ℕ) → length program.types ≤ ty → map wire_of [] ≡ map zero_of (repeated count (cells_at program ty))
+none_past program ty count past =
+    sym (ap (λ (o : Option Ty). map zero_of (repeated count (cells_or program o))) (slice_get_past program.types ty past) ∙ ap (map zero_of) (none_repeated count))
 
 -- one cell after the other
 pub one_more : {A B : Type 0} (f : A → B) (xs : List A) (i : ℕ) (y : B) → option_map f (slice_get xs i) ≡ Some y → map f (drop i xs) ≡ y ∷ map f (drop (suc i) xs)

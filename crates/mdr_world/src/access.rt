@@ -9,7 +9,7 @@ ghost use Rattle.mdr_meaning.specs.Values.{natural_of, wire_of, wire_view};
 ghost use Rattle.mdr_model.specs.Memory.{cell_at, cell_of, everywhere, loaded, loaded_cell, loaded_value, normal, put, reached_by, stored};
 ghost use Rattle.mdr_model.specs.Sets.{cells_from};
 ghost use Rattle.mdr_plain.specs.Scripts.{poked_memory, poked_value};
-ghost use Rattle.mdr_plain.specs.Storage.{byte_at, bytes_from, cells_read, fresh, number_in, read};
+ghost use Rattle.mdr_plain.specs.Storage.{byte_at, bytes_from, cells_read, fresh, number_in, read, saturated_u8};
 ghost use Rattle.mdr_world.specs.Reaching.{with_memory};
 ghost use Rattle.mdr_meaning.specs.declared.wire.Wire.TheVariants as wire;
 ghost use Rattle.mdr_meaning.specs.declared.wire.WireView.{WireView};
@@ -268,27 +268,26 @@ pub fn poke(blocks: &mut RegionBlocks, serial: u64, index: u32, n: i128)
 
 // ---- bytes
 
-/// A byte. A number that none is answers want of memory: what is read as bytes holds no such number.
-fn byte_of(n: i128) -> Result<u8, AllocError>
-    ensures { IfOk result (λ b. b ≡ natural_of n) }
+/// A number as a byte: the greatest one where it is greater.
+fn byte_of(n: i128) -> u8
+    ensures { result ≡ saturated_u8 (natural_of n) }
 {
     if n < 0 {
-        Ok(0)
-    } else {
-        match u8::try_from(n) {
-            Ok(b) => Ok(b),
-            Err(_) => Err(AllocError),
-        }
+        return 0;
     }
+    if n > 255 {
+        return 255;
+    }
+    n as u8
 }
 
-fn byte_in(held: Option<Value>) -> Result<u8, AllocError>
-    ensures { IfOk result (λ b. b ≡ number_in (option_map wire_of held)) }
+fn byte_in(held: Option<Value>) -> u8
+    ensures { result ≡ number_in (option_map wire_of held) }
 {
     match held {
         Some(Value::Int(_, n)) => byte_of(n),
-        Some(_) => Ok(0),
-        None => Ok(0),
+        Some(_) => 0,
+        None => 0,
     }
 }
 
@@ -313,7 +312,7 @@ fn bytes_in(
                 index: first + i as u64,
             },
         );
-        bytes.push(byte_in(held)?)?;
+        bytes.push(byte_in(held))?;
         i += 1;
     }
     Ok(bytes)

@@ -1,12 +1,14 @@
 // What objects are born with.
 
-ghost use Rattle.std.specs.Prelude.{◌≡◌, ◌<◌, IfOk, length, map};
+ghost use Rattle.std.specs.Prelude.{◌≡◌, ◌<◌, IfOk, OnErr, length, map};
+ghost use Rattle.mdr_core.specs.declared.memory_error.Limit.TheVariants as limit;
+ghost use Rattle.mdr_core.specs.Limits.{most};
 ghost use Rattle.mdr_core.specs.Layout.{cells_at, repeated, zero_value};
 ghost use Rattle.mdr_core.specs.Sound.{IsSound};
 ghost use Rattle.mdr_meaning.specs.Values.{wire_of};
 ghost use Rattle.mdr_model.specs.Memory.{zero_of};
 
-use mdr_core::{Items, OutOfMemory, Program, Shape, Value, cells_of, zero_of};
+use mdr_core::{Items, Limit, OutOfMemory, Program, Shape, Value, cells_of, within, zero_of};
 use mdr_model::Shape64;
 use std::alloc::Global;
 
@@ -41,39 +43,27 @@ fn repeated(alloc: Global, count: u32, element: &[Value]) -> Result<Items<Value>
     Ok(Items::from_vec(all))
 }
 
-/// Whether a block has room for so many elements.
-fn is_small(element: usize, count: u64) -> bool {
-    match (element as u64).checked_mul(count) {
-        Some(cells) => cells <= 65536,
-        None => false,
-    }
-}
-
-/// A shape that a block may have. What has more elements is too large.
+/// A shape as blocks have it. What has more elements than can be counted is too large.
 pub fn shape_of(shape: Shape64) -> Result<Shape, OutOfMemory>
     ensures ty { IfOk result (λ s. s.ty ≡ shape.ty) }
     ensures count { IfOk result (λ s. s.count ≡ shape.count) }
+    ensures large { OnErr result (most limit.Cells < shape.count) }
 {
-    match u32::try_from(shape.count) {
-        Ok(count) => Ok(Shape {
-            ty: shape.ty,
-            count,
-        }),
-        Err(_) => Err(OutOfMemory::unmet()),
-    }
+    within(shape.count, Limit::Cells)?;
+    Ok(Shape {
+        ty: shape.ty,
+        count: shape.count as u32,
+    })
 }
 
-/// The zeros of an object.
+/// The zeros of an object. A type past the table has no cells.
 pub fn zeros(alloc: Global, program: &Program, shape: Shape) -> Result<Items<Value>, OutOfMemory>
     requires { IsSound program.now }
     ensures { IfOk result (λ vs. map wire_of vs ≡ map zero_of (repeated shape.count (cells_at program.now shape.ty))) }
 {
     if shape.ty as usize >= program.types.len() {
-        return Err(OutOfMemory::unmet());
+        return Ok(Items::new(alloc));
     }
     let element = element(alloc, program, shape.ty)?;
-    if !is_small(element.len(), shape.count as u64) {
-        return Err(OutOfMemory::unmet());
-    }
     repeated(alloc, shape.count, element.as_slice())
 }

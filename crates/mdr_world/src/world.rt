@@ -84,8 +84,7 @@ impl<'a> Model for World<'a> {
 }
 
 impl<'a> World<'a> {
-    /// The state in which the run of a script begins. What a block can't be, or a first value that names what isn't born
-    /// yet, answers want of memory.
+    /// The state in which the run of a script begins. What a block can't be answers want of memory.
     #[tactic(auto, unfolding(mdr_plain::specs::Scripts::first_world))]
     pub fn new(
         alloc: Global,
@@ -432,10 +431,8 @@ impl<'a> World<'a> {
     {
         let mut pointers = Items::new(alloc);
         for shape in shapes {
-            match self.add(alloc, kind, *shape) {
-                Ok(p) => pointers.push(p)?,
-                Err(_) => return Err(AllocError),
-            }
+            let p = self.add(alloc, kind, *shape)?;
+            pointers.push(p)?;
         }
         Ok(pointers)
     }

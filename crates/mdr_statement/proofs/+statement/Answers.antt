@@ -28,11 +28,21 @@ statements::statement-returns-in-Semicolon-clause-reads t c = goes c.args.reader
 pub statements::statement-returns-in-OpenBrace-clause-reads : goal.statements::statement-returns-in-OpenBrace-clause-reads
 statements::statement-returns-in-OpenBrace-clause-reads t c = arm c.args.reader.halves (part (statement c.args.level)) (λ x. x.0) (λ x. x.1.now) c.block.result Sort.OpenBrace c.in-Some.ensures.found c.in-OpenBrace.is refl refl (by_nested c.args.reader.halves c.args.level c.in-Some.token.now.place (λ x. x.0) (λ x. x.1.now) c.block.result c.in-Some.rest.now c.block.ensures.reads)
 
-pub statements::statement-returns-in-Break-clause-reads : goal.statements::statement-returns-in-Break-clause-reads
-statements::statement-returns-in-Break-clause-reads t c = arm c.args.reader.halves (part (statement c.args.level)) (λ x. x.0) (λ x. x.1.now) c.break_behind.result Sort.Break c.in-Some.ensures.found c.in-Break.is refl refl c.break_behind.ensures.reads
+pub statements::statement-returns-in_ok-break_behind-in-Break-clause-reads : goal.statements::statement-returns-in_ok-break_behind-in-Break-clause-reads
+statements::statement-returns-in_ok-break_behind-in-Break-clause-reads t c = goes c.args.reader.halves (part (statement c.args.level)) Sort.Break c.in-Some.ensures.found c.in-Break.is refl refl ∙ c.in_ok-break_behind-in-Break.ensures.reads
 
-pub statements::statement-returns-in-Continue-clause-reads : goal.statements::statement-returns-in-Continue-clause-reads
-statements::statement-returns-in-Continue-clause-reads t c = arm c.args.reader.halves (part (statement c.args.level)) (λ x. x.0) (λ x. x.1.now) c.continue_behind.result Sort.Continue c.in-Some.ensures.found c.in-Continue.is refl refl c.continue_behind.ensures.reads
+pub statements::statement-returns-in_err-break_behind-in-Break-clause-reads : goal.statements::statement-returns-in_err-break_behind-in-Break-clause-reads
+statements::statement-returns-in_err-break_behind-in-Break-clause-reads t c =
+    let p = err_from_is_err_and c.from_residual.result c.from_residual.ensures.1 in
+    rw (p.1, p.2) (goes c.args.reader.halves (part (statement c.args.level)) Sort.Break c.in-Some.ensures.found c.in-Break.is refl refl ∙ c.in_err-break_behind-in-Break.ensures.reads)
+
+pub statements::statement-returns-in_ok-continue_behind-in-Continue-clause-reads : goal.statements::statement-returns-in_ok-continue_behind-in-Continue-clause-reads
+statements::statement-returns-in_ok-continue_behind-in-Continue-clause-reads t c = goes c.args.reader.halves (part (statement c.args.level)) Sort.Continue c.in-Some.ensures.found c.in-Continue.is refl refl ∙ c.in_ok-continue_behind-in-Continue.ensures.reads
+
+pub statements::statement-returns-in_err-continue_behind-in-Continue-clause-reads : goal.statements::statement-returns-in_err-continue_behind-in-Continue-clause-reads
+statements::statement-returns-in_err-continue_behind-in-Continue-clause-reads t c =
+    let p = err_from_is_err_and c.from_residual-in_err-continue_behind-in-Continue.result c.from_residual-in_err-continue_behind-in-Continue.ensures.1 in
+    rw (p.1, p.2) (goes c.args.reader.halves (part (statement c.args.level)) Sort.Continue c.in-Some.ensures.found c.in-Continue.is refl refl ∙ c.in_err-continue_behind-in-Continue.ensures.reads)
 
 pub statements::statement-returns-in-Return-clause-reads : goal.statements::statement-returns-in-Return-clause-reads
 statements::statement-returns-in-Return-clause-reads t c = arm c.args.reader.halves (part (statement c.args.level)) (λ x. x.0) (λ x. x.1.now) c.return_behind.result Sort.Return c.in-Some.ensures.found c.in-Return.is refl refl c.return_behind.ensures.reads

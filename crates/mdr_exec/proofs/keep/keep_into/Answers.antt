@@ -8,8 +8,8 @@ use Rattle.mdr_exec.proofs.keep.keep_into.Goals as goal
 
 pub returns-in-Ok : goal.returns-in-Ok
 returns-in-Ok g c = λ side n known comes.
-    c.put_kept.ensures side n (wire_of c.args.value) known
-    (received_so (known_of c.args.program.now) _ _ (wire_of c.args.value) c.received-kept.result (Ok c.in-Ok.value) c.received-kept.ensures c.named_type.ensures c.in-Ok.is) comes
+    c.put_kept.ensures (wire_of c.args.value)
+    (received_so (known_of c.args.program.now) _ _ (wire_of c.args.value) c.received-kept.result (Ok c.in-Ok.value) c.received-kept.ensures c.named_type.ensures c.in-Ok.is) side n known comes
 
 pub returns-in-Err : goal.returns-in-Err
 returns-in-Err g c = λ side n known comes.

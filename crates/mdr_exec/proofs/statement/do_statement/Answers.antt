@@ -53,15 +53,15 @@ returns-in-Return g c =
 
 pub returns-in-Break : goal.returns-in-Break
 returns-in-Break g c =
-    c.begin_jump.ensures c.args.program.now (side_in c.args.machine.now.side c.args.halves.now c.args.program.now) c.args.statement.now.number Way.Breaks refl (c.requires.stands ∙ ap Some (code_is c.args.statement.now step.Break c.in-Break.is ∙ break_is c.args.statement.now.number))
+    c.begin_jump.ensures c.args.program.now Way.Breaks refl (side_in c.args.machine.now.side c.args.halves.now c.args.program.now) c.args.statement.now.number (c.requires.stands ∙ ap Some (code_is c.args.statement.now step.Break c.in-Break.is ∙ break_is c.args.statement.now.number))
 
 pub returns-in-Continue : goal.returns-in-Continue
 returns-in-Continue g c =
-    c.begin_jump-in-Continue.ensures c.args.program.now (side_in c.args.machine.now.side c.args.halves.now c.args.program.now) c.args.statement.now.number Way.Continues refl (c.requires.stands ∙ ap Some (code_is c.args.statement.now step.Continue c.in-Continue.is ∙ continue_is c.args.statement.now.number))
+    c.begin_jump-in-Continue.ensures c.args.program.now Way.Continues refl (side_in c.args.machine.now.side c.args.halves.now c.args.program.now) c.args.statement.now.number (c.requires.stands ∙ ap Some (code_is c.args.statement.now step.Continue c.in-Continue.is ∙ continue_is c.args.statement.now.number))
 
 pub returns-in-Empty : goal.returns-in-Empty
 returns-in-Empty g c =
-    c.begin_jump-in-Empty.ensures c.args.program.now (side_in c.args.machine.now.side c.args.halves.now c.args.program.now) c.args.statement.now.number Way.Ends refl (c.requires.stands ∙ ap Some (code_is c.args.statement.now step.Empty c.in-Empty.is ∙ empty_is c.args.statement.now.number))
+    c.begin_jump-in-Empty.ensures c.args.program.now Way.Ends refl (side_in c.args.machine.now.side c.args.halves.now c.args.program.now) c.args.statement.now.number (c.requires.stands ∙ ap Some (code_is c.args.statement.now step.Empty c.in-Empty.is ∙ empty_is c.args.statement.now.number))
 
 pub unreachable-requires : goal.unreachable-requires
 unreachable-requires g c =

@@ -1,16 +1,22 @@
 use Rattle.std.proofs.Common.{refl, ap, sym, ◌∙◌, Ok}
+use Rattle.std.proofs.lemmas.Result.{err_from_is_err_and}
 use Rattle.mdr_grammar.specs.declared.sort.Sort.{Sort}
 use Rattle.mdr_grammar.specs.Forms.Part.{constant as a_constant}
 use Rattle.mdr_grammar.specs.Forms.Nonterminal.{part}
-use Rattle.mdr_reader.proofs.Arms.{goes, arm, none, at_end}
+use Rattle.mdr_reader.proofs.Arms.{goes, none, at_end}
 use Rattle.mdr_reader.proofs.Nones.{no_constant}
 use Rattle.mdr_reader.proofs.constants.constant.Goals as goal
 
 pub returns-in_default-clause-reads : goal.returns-in_default-clause-reads
 returns-in_default-clause-reads c = at_end c.args.reader.halves (part a_constant) c.in_default.ensures.found
 
-pub returns-in-Minus-clause-reads : goal.returns-in-Minus-clause-reads
-returns-in-Minus-clause-reads c = arm c.args.reader.halves (part a_constant) (λ x. x.0) (λ x. x.1.now) c.negative_behind.result Sort.Minus c.in-Some.ensures.found c.in-Minus.is refl refl c.negative_behind.ensures.reads
+pub returns-in_ok-negative_behind-in-Minus-clause-reads : goal.returns-in_ok-negative_behind-in-Minus-clause-reads
+returns-in_ok-negative_behind-in-Minus-clause-reads c = goes c.args.reader.halves (part a_constant) Sort.Minus c.in-Some.ensures.found c.in-Minus.is refl refl ∙ c.in_ok-negative_behind-in-Minus.ensures.reads
+
+pub returns-in_err-negative_behind-in-Minus-clause-reads : goal.returns-in_err-negative_behind-in-Minus-clause-reads
+returns-in_err-negative_behind-in-Minus-clause-reads c =
+    let p = err_from_is_err_and c.from_residual.result c.from_residual.ensures.1 in
+    rw (p.1, p.2) (goes c.args.reader.halves (part a_constant) Sort.Minus c.in-Some.ensures.found c.in-Minus.is refl refl ∙ c.in_err-negative_behind-in-Minus.ensures.reads)
 
 pub returns-in-Number-clause-reads : goal.returns-in-Number-clause-reads
 returns-in-Number-clause-reads c = goes c.args.reader.halves (part a_constant) Sort.Number c.in-Some.ensures.found c.in-Number.is refl refl ∙ ap (λ v. Ok (v, c.in-Some.rest.now)) (sym c.number_constant.ensures)

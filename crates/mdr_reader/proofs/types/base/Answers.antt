@@ -1,4 +1,5 @@
-use Rattle.std.proofs.Common.{◌≡◌, refl, false}
+use Rattle.std.proofs.Common.{◌≡◌, refl, ◌∙◌, false}
+use Rattle.std.proofs.lemmas.Result.{err_from_is_err_and}
 use Rattle.mdr_syntax.specs.declared.token.Token.{Token}
 use Rattle.mdr_core.specs.declared.kind.Kind.{Kind}
 use Rattle.mdr_grammar.specs.declared.sort.Sort.{Sort}
@@ -27,11 +28,16 @@ returns-in-Int-clause-reads c = goes c.args.reader.halves (part a_base) Sort.Int
 pub returns-in-Long-clause-reads : goal.returns-in-Long-clause-reads
 returns-in-Long-clause-reads c = goes c.args.reader.halves (part a_base) Sort.Long c.in-Some.ensures.found c.in-Long.is refl refl
 
-pub returns-in-Signed-clause-reads : goal.returns-in-Signed-clause-reads
-returns-in-Signed-clause-reads c = arm c.args.reader.halves (part a_base) (λ x. x.0) (λ x. x.1.now) c.signed_behind.result Sort.Signed c.in-Some.ensures.found c.in-Signed.is refl refl c.signed_behind.ensures.reads
+pub returns-in_ok-signed_behind-in-Signed-clause-reads : goal.returns-in_ok-signed_behind-in-Signed-clause-reads
+returns-in_ok-signed_behind-in-Signed-clause-reads c = goes c.args.reader.halves (part a_base) Sort.Signed c.in-Some.ensures.found c.in-Signed.is refl refl ∙ c.in_ok-signed_behind-in-Signed.ensures.reads
+
+pub returns-in_err-signed_behind-in-Signed-clause-reads : goal.returns-in_err-signed_behind-in-Signed-clause-reads
+returns-in_err-signed_behind-in-Signed-clause-reads c =
+    let p = err_from_is_err_and c.from_residual.result c.from_residual.ensures.1 in
+    rw (p.1, p.2) (goes c.args.reader.halves (part a_base) Sort.Signed c.in-Some.ensures.found c.in-Signed.is refl refl ∙ c.in_err-signed_behind-in-Signed.ensures.reads)
 
 pub returns-in-Unsigned-clause-reads : goal.returns-in-Unsigned-clause-reads
-returns-in-Unsigned-clause-reads c = arm c.args.reader.halves (part a_base) (λ x. x.0) (λ x. x.1.now) c.unsigned_behind.result Sort.Unsigned c.in-Some.ensures.found c.in-Unsigned.is refl refl c.unsigned_behind.ensures.reads
+returns-in-Unsigned-clause-reads c = goes c.args.reader.halves (part a_base) Sort.Unsigned c.in-Some.ensures.found c.in-Unsigned.is refl refl ∙ c.unsigned_behind.ensures.reads
 
 pub returns-in-Void-clause-reads : goal.returns-in-Void-clause-reads
 returns-in-Void-clause-reads c = goes c.args.reader.halves (part a_base) Sort.Void c.in-Some.ensures.found c.in-Void.is refl refl

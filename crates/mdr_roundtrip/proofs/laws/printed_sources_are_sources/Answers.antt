@@ -1,7 +1,7 @@
 use Rattle.mdr_print.specs.Items.{tree_marks, printed}
 use Rattle.mdr_print.specs.Spelled.{spelled}
 use Rattle.mdr_print.proofs.Reading.{reads_tree}
-use Rattle.mdr_reread.proofs.ItemsApart.{trees_apart}
+use Rattle.mdr_roundtrip.proofs.ItemsApart.{trees_apart}
 use Rattle.mdr_roundtrip.proofs.Lexemes.{tokens_are_lexed}
 use Rattle.mdr_roundtrip.proofs.PlacedSources.{shape_again}
 use Rattle.mdr_roundtrip.proofs.Printing.{trees_are_printable}

@@ -11,12 +11,12 @@ loop-rest-init c = record {
   reads = rw c.new-tokens.ensures (begins _ first_place c.args.bytes.now);
   line = omega arith;
   column = omega arith;
-  short = omega arith;
+  short = omega (arith, c.in_ok-within.ensures.ok);
 }
 
 pub returns-in_err-piece-clause-exact : goal.returns-in_err-piece-clause-exact
 returns-in_err-piece-clause-exact c =
-    let p = err_from_is_err_and c.from_residual.result c.from_residual.ensures.1 in
+    let p = err_from_is_err_and c.from_residual-in_err-piece.result c.from_residual-in_err-piece.ensures.1 in
     let some : 0 < length c.loop-rest.rest.now = some_left c.is_empty.result (length c.loop-rest.rest.now) c.is_empty.ensures c.loop-rest-test.true in
     rw (p.1, p.2) (ends c.in_err-piece.field-0.0 c.loop-rest.tokens c.loop-rest.is_fresh c.loop-rest.place c.loop-rest.rest.now (tokens_of c.args.bytes.now) some c.in_err-piece.ensures.value c.loop-rest.invariant.reads)
 

@@ -2,7 +2,7 @@ use Rattle.std.proofs.Common.{map, refl, rules}
 use Rattle.std.specs.Prelude.{string_bytes}
 use Rattle.mdr_due.proofs.StageSteps.{err_weaker}
 use Rattle.mdr_slicer.proofs.Steps.{ok_so}
-use Rattle.mdr_halves_runner.specs.Names.{names_in}
+use Rattle.mdr_top.specs.Names.{names_in}
 use Rattle.mdr_top.specs.Done.{Done, DonePart}
 use Rattle.mdr_top.proofs.TextsLaws.{texts_named, texts_unnamed, texts_unwritten}
 use Rattle.mdr_top.proofs.texts.from_texts.Goals as goal

@@ -1,6 +1,6 @@
 use Rattle.mdr_due.specs.declared.due.Due.{Due}
 use Rattle.mdr_slicer.proofs.Steps.{ok_so}
-use Rattle.mdr_runner.specs.Runs.{Runs}
+use Rattle.mdr_top.specs.WholeRuns.{Runs}
 use Rattle.mdr_top.specs.Wholes.{IsOfWhole}
 use Rattle.mdr_top.proofs.WholeLaws.{whole_status, whole_unwritten}
 use Rattle.mdr_top.proofs.whole.run_whole.Goals as goal

@@ -10,7 +10,7 @@ returns-in-Ok-Done-clause-comes c =
     IfOk-weaker c.answered.result _ _
     (λ p h. λ script.
     service_told (driver_in c.args.watch) c.args.active.ledger c.args.active.guarded.world c.ask.new.guarded.world (upcall_of c.args.active.open) (drop c.args.active.open.done script) script c.args.asked.now c.args.args.now c.in-Ok-Done.results _
-    c.in-Ok-Done.field-0 _ p c.requires.args c.as_slice.ensures c.in-Ok-Done.field-0-is c.in-Ok-Done.ensures.served (h script c.args.active.guarded.world c.args.asked.now.at c.args.asked.now.shapes c.args.asked.now.bytes))
+    c.in-Ok-Done.field-0 _ p c.requires.args c.as_slice.ensures c.in-Ok-Done.field-0-is c.in-Ok-Done.ensures.served (h c.args.asked.now.at c.args.asked.now.shapes c.args.asked.now.bytes script c.args.active.guarded.world))
     c.answered.ensures.comes
 
 pub returns-in-Ok-Stop-clause-kept : goal.returns-in-Ok-Stop-clause-kept

@@ -11,6 +11,9 @@ prepare-requires-clause-goes c = (c.args.turn, c.requires.goes)
 pub run-requires-clause-ready : goal.run-requires-clause-ready
 run-requires-clause-ready c = c.in_ok-prepare.ensures.ready
 
+pub run-requires-clause-below : goal.run-requires-clause-below
+run-requires-clause-below c = c.in_ok-prepare.ensures.waits
+
 pub take-requires : goal.take-requires
 take-requires c = subst (λ (k : Kept). TellsTo (driver_in c.args.scene) k.agreed c.args.message.now c.args.turn.sight.copy) (sym c.in_ok-prepare.ensures.memory) c.requires.tells
 

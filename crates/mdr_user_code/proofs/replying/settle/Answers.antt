@@ -1,8 +1,10 @@
-use Rattle.std.proofs.Common.{◌≡◌, ◌-◌, ◌∙◌, sym, ap}
+use Rattle.std.proofs.Common.{◌≡◌, ◌-◌, ◌∙◌, List, sym, ap}
+use Rattle.mdr_model.specs.declared.memory.Cell.{Cell}
 use Rattle.mdr_model.specs.Copies.{put_runs}
 use Rattle.mdr_user_memory.specs.Kept.{Kept, past_in}
 use Rattle.mdr_user_code.specs.declared.state.State.{State}
-use Rattle.mdr_user_code.specs.Replying.{awaits_as, told_as}
+use Rattle.mdr_user_code.specs.Replying.{state_behind, told_as}
+use Rattle.mdr_user_code.proofs.BelowLaws.{settled_so}
 use Rattle.mdr_user_code.proofs.replying.settle.Goals as goal
 
 pub settled-settled-requires : goal.settled-settled-requires
@@ -17,9 +19,9 @@ pub returns-clause-state : goal.returns-clause-state
 returns-clause-state c = record {
   agreed = ap (λ (k : Kept). k.agreed) c.put.ensures ∙ (c.settled-settled.ensures.memory ∙ sym c.requires.told);
   past = ap past_in c.put.ensures ∙ c.settled-settled.ensures.past;
-  machine = ap (λ (s : State). s.machine) c.in_ok-keep.ensures;
-  func = ap (λ (s : State). s.func) c.in_ok-keep.ensures;
-  entered = ap (λ (s : State). s.entered) c.in_ok-keep.ensures;
-  view = c.put-2.ensures ∙ c.settled-settled.ensures.view;
-  awaits = ap (λ (s : State). s.awaits) c.in_ok-keep.ensures ∙ ap (λ n. awaits_as (c.args.rest - n) c.args.event.now) c.used-used.ensures;
+  behind =
+      let kept = c.in_ok-keep.ensures ∙ ap (λ n. state_behind (c.args.rest - n) c.args.event.now c.args.state.now) c.used-used.ensures in
+      ap (λ (s : State). record s { memory = c.put.new.place; view = c.put-2.new.place }) kept
+      ∙ settled_so (c.args.rest - c.args.state.now.machine.used) c.args.event.now c.args.state.now c.put.new.place c.put-2.new.place
+      ∙ ap (λ (v : List Cell). state_behind (c.args.rest - c.args.state.now.machine.used) c.args.event.now (record c.args.state.now { memory = c.put.new.place; view = v })) (c.put-2.ensures ∙ c.settled-settled.ensures.view);
 }

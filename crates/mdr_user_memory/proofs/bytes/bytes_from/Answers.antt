@@ -6,7 +6,7 @@ use Rattle.mdr_user_memory.proofs.bytes.bytes_from.Goals as goal
 pub loop-i-preserved : goal.loop-i-preserved
 loop-i-preserved c =
     rw c.in_ok-push.ensures.ok
-    (bytes_more c.args.memory.now.memory c.args.serial c.args.first c.args.count c.loop-i.i c.loop-i.bytes _ c.in_ok-byte_in.field-0 c.loop-i-test.true (c.in_ok-byte_in.ensures ∙ ap number_in c.held-held.ensures) c.loop-i.invariant)
+    (bytes_more c.args.memory.now.memory c.args.serial c.args.first c.args.count c.loop-i.i c.loop-i.bytes _ c.byte_in.result c.loop-i-test.true (c.byte_in.ensures ∙ ap number_in c.held-held.ensures) c.loop-i.invariant)
 
 pub returns : goal.returns
 returns c = bytes_done c.args.memory.now.memory c.args.serial c.args.first c.args.count c.loop-i.i c.loop-i.bytes _ c.loop-i-test.false c.loop-i.invariant

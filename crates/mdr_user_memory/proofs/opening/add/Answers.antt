@@ -3,11 +3,15 @@ use Rattle.mdr_mem.specs.Contents.{Contents}
 use Rattle.mdr_track.specs.Tracked.{pairs_of}
 use Rattle.mdr_user_memory.specs.declared.newborn.Newborn.{Newborn}
 use Rattle.mdr_user_memory.specs.Paired.{told_all}
-use Rattle.mdr_user_memory.proofs.OpeningLaws.{added}
+use Rattle.mdr_user_memory.proofs.OpeningLaws.{added, first_sized}
 use Rattle.mdr_user_memory.proofs.StepLaws.{linked_moved, moved_from}
 use Rattle.mdr_user_memory.specs.Lived.{LivesIn, born}
 use Rattle.mdr_user_memory.proofs.LivedLaws.{lives_from, told_length}
 use Rattle.mdr_user_memory.proofs.opening.add.Goals as goal
+
+pub make_room-requires-clause-sized : goal.make_room-requires-clause-sized
+make_room-requires-clause-sized c =
+    first_sized c.args.region.now.contents.handles (pairs_of c.args.pairs.now) c.in_ok-first.first c.args.block.now.cells (c.in_ok-first.ensures ∙ c.as_slice.ensures) c.requires.sized
 
 pub bear-requires-clause-linked : goal.bear-requires-clause-linked
 bear-requires-clause-linked c = linked_moved c.make_room.ensures.contents c.make_room.ensures.pairs c.requires.linked

@@ -1,4 +1,4 @@
-use Rattle.std.proofs.Common.{◌∙◌, sym, ap}
+use Rattle.std.proofs.Common.{◌∙◌, ap}
 use Rattle.mdr_mem.specs.Contents.{wire_in}
 use Rattle.mdr_track.specs.Tracked.{pairs_of}
 use Rattle.mdr_track.specs.Pointers.{addressed}
@@ -6,7 +6,7 @@ use Rattle.mdr_user_memory.specs.Paired.{told}
 use Rattle.mdr_user_memory.proofs.OpeningLaws.{placed_is}
 use Rattle.mdr_user_memory.proofs.opening.placed.Goals as goal
 
-pub returns-then-is_paired : goal.returns-then-is_paired
-returns-then-is_paired c =
+pub returns : goal.returns
+returns c =
     ap (λ v. told c.args.region.now.contents.handles (pairs_of c.args.pairs.now) (wire_in c.args.region.now.contents.handles v)) (c.addressed.ensures ∙ ap (addressed (pairs_of c.args.pairs.now)) c.value_of.ensures)
-    ∙ placed_is c.args.region.now.contents (pairs_of c.args.pairs.now) c.args.wire c.requires (sym c.is_paired.ensures ∙ c.if-is_paired.true)
+    ∙ placed_is c.args.region.now.contents (pairs_of c.args.pairs.now) c.args.wire c.requires.linked c.requires.paired

@@ -1,7 +1,7 @@
 use Rattle.mdr_events.specs.Values.{wires_of}
 use Rattle.mdr_watch.specs.Going.{program_in}
 use Rattle.mdr_watch.specs.Watching.{user_side}
-use Rattle.mdr_watch.proofs.Sides.{user_body}
+use Rattle.mdr_watch.proofs.Sides.{user_body, user_has_body}
 use Rattle.mdr_watch.proofs.Turns.{is_started}
 use Rattle.mdr_watch.proofs.upcall.started.Goals as goal
 
@@ -9,3 +9,6 @@ pub returns : goal.returns
 returns c =
     is_started c.args.upcall (wires_of c.args.args.now) c.new-machine.result c.start.new.self (λ f r. c.new-machine.ensures (program_in c.args.upcall) (user_side c.args.upcall) f r)
     (user_body (program_in c.args.upcall) c.args.upcall.watch.plan.now c.requires.fit c.args.upcall.func c.requires.user) c.in_ok-start.ensures.begins c.in_ok-start.ensures.ready
+
+pub start-requires-clause-body : goal.start-requires-clause-body
+start-requires-clause-body c = user_has_body (program_in c.args.upcall) c.args.upcall.watch.plan.now c.requires.fit c.requires.bodies c.args.upcall.func c.requires.user

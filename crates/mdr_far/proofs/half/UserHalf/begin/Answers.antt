@@ -9,7 +9,7 @@ use Rattle.mdr_far.proofs.HalfSteps.{memory_paired}
 use Rattle.mdr_far.proofs.half.UserHalf.begin.Goals as goal
 
 pub begins-requires : goal.begins-requires
-begins-requires c = c.requires.sound.numbers
+begins-requires c = c.requires.sound
 
 pub returns-in-Ok-clause-begun : goal.returns-in-Ok-clause-begun
 returns-in-Ok-clause-begun c = c.half_of.ensures ∙ ap (new_half c.args.source.program c.args.source.plan) (sym (ap (λ (h : HalfState). h.memory) c.half_of.ensures))

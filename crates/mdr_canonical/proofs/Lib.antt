@@ -1,4 +1,0 @@
-pub mod NewNames
-pub mod KeyLists
-pub mod PointerLists
-pub mod Planned

@@ -1,5 +1,0 @@
-use Rattle.mdr_canonical.proofs.Planned.{plans_are_canonical}
-use Rattle.mdr_canonical.proofs.laws.a_slicers_plan_is_canonical.Goals as goal
-
-pub returns : goal.returns
-returns c = plans_are_canonical

@@ -1,5 +1,0 @@
-use Rattle.mdr_file_names.proofs.FuncNames.{functions_are_named}
-use Rattle.mdr_file_names.proofs.laws.functions_have_names_of_their_own.Goals as goal
-
-pub returns : goal.returns
-returns c = functions_are_named

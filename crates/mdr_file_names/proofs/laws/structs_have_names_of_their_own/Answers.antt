@@ -1,5 +1,0 @@
-use Rattle.mdr_file_names.proofs.WholeFiles.{structs_are_named}
-use Rattle.mdr_file_names.proofs.laws.structs_have_names_of_their_own.Goals as goal
-
-pub returns : goal.returns
-returns c = structs_are_named

@@ -1,5 +1,0 @@
-use Rattle.mdr_file_names.proofs.WholeFiles.{tables_of_files_are_in_order}
-use Rattle.mdr_file_names.proofs.laws.tables_of_files_are_in_order.Goals as goal
-
-pub returns : goal.returns
-returns c = tables_of_files_are_in_order

@@ -1,5 +1,0 @@
-use Rattle.mdr_half_pieces.proofs.Parting.{halves_are_parts}
-use Rattle.mdr_half_pieces.proofs.laws.halves_have_the_programs.Goals as goal
-
-pub returns : goal.returns
-returns c = halves_are_parts

@@ -1,5 +1,0 @@
-use Rattle.mdr_half_pieces.proofs.Suited.{functions_suited}
-use Rattle.mdr_half_pieces.proofs.laws.plans_suit_their_functions.Goals as goal
-
-pub returns : goal.returns
-returns c = functions_suited

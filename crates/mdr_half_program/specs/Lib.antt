@@ -1,0 +1,16 @@
+pub mod Pieces
+pub mod Bodies
+pub mod Sides
+pub mod Programs
+pub mod Suited
+pub mod Counted
+pub mod Reading
+pub mod Defined
+pub mod Usable
+pub mod UsedFunctions
+pub mod Sourced
+pub mod SameTypes
+pub mod HalfTypes
+pub mod Whole
+pub mod Headings
+pub mod Replies

@@ -1,5 +1,0 @@
-use Rattle.mdr_half_read.proofs.Again.{read_again}
-use Rattle.mdr_half_read.proofs.laws.printed_halves_have_the_programs.Goals as goal
-
-pub returns : goal.returns
-returns c = read_again

@@ -1,5 +1,0 @@
-use Rattle.mdr_half_whole.proofs.UsedLines.{bodies_free}
-use Rattle.mdr_half_whole.proofs.laws.bodies_use_what_is_declared.Goals as goal
-
-pub returns : goal.returns
-returns c = bodies_free

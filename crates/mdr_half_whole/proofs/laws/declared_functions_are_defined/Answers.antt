@@ -1,5 +1,0 @@
-use Rattle.mdr_half_whole.proofs.UsedFiles.{declared_defined}
-use Rattle.mdr_half_whole.proofs.laws.declared_functions_are_defined.Goals as goal
-
-pub returns : goal.returns
-returns c = declared_defined

@@ -1,5 +1,0 @@
-use Rattle.mdr_half_whole.proofs.Defined.{defined_have}
-use Rattle.mdr_half_whole.proofs.laws.defined_functions_have_bodies.Goals as goal
-
-pub returns : goal.returns
-returns c = defined_have

@@ -1,5 +1,0 @@
-use Rattle.mdr_half_whole.proofs.Kept.{functions_keep}
-use Rattle.mdr_half_whole.proofs.laws.functions_keep_their_headings.Goals as goal
-
-pub returns : goal.returns
-returns c = functions_keep

@@ -1,5 +1,0 @@
-use Rattle.mdr_half_whole.proofs.Same.{functions_keep}
-use Rattle.mdr_half_whole.proofs.laws.functions_keep_their_types.Goals as goal
-
-pub returns : goal.returns
-returns c = functions_keep

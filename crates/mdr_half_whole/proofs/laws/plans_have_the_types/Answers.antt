@@ -1,5 +1,0 @@
-use Rattle.mdr_half_whole.proofs.Tabled.{plans_have}
-use Rattle.mdr_half_whole.proofs.laws.plans_have_the_types.Goals as goal
-
-pub returns : goal.returns
-returns c = plans_have

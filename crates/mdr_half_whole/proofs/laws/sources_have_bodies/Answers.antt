@@ -1,5 +1,0 @@
-use Rattle.mdr_half_whole.proofs.Sourced.{sources_have}
-use Rattle.mdr_half_whole.proofs.laws.sources_have_bodies.Goals as goal
-
-pub returns : goal.returns
-returns c = sources_have

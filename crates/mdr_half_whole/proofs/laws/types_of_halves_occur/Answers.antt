@@ -1,5 +1,0 @@
-use Rattle.mdr_half_whole.proofs.Among.{types_occur_there}
-use Rattle.mdr_half_whole.proofs.laws.types_of_halves_occur.Goals as goal
-
-pub returns : goal.returns
-returns c = types_occur_there

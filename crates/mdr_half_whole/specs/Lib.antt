@@ -1,9 +1,0 @@
-pub mod Defined
-pub mod Usable
-pub mod UsedFunctions
-pub mod Sourced
-pub mod SameTypes
-pub mod HalfTypes
-pub mod Whole
-pub mod Headings
-pub mod Replies

@@ -1,5 +1,0 @@
-use Rattle.mdr_reports.proofs.RunLaws.{followed_runs_are_strict}
-use Rattle.mdr_reports.proofs.laws.followed_runs_are_strict.Goals as goal
-
-pub returns : goal.returns
-returns c = followed_runs_are_strict

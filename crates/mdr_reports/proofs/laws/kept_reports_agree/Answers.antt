@@ -1,5 +1,0 @@
-use Rattle.mdr_reports.proofs.RunLaws.{kept_reports_agree}
-use Rattle.mdr_reports.proofs.laws.kept_reports_agree.Goals as goal
-
-pub returns : goal.returns
-returns c = kept_reports_agree

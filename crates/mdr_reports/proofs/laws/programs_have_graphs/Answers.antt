@@ -1,5 +1,0 @@
-use Rattle.mdr_reports.proofs.Graphs.{graph_is, graph_of}
-use Rattle.mdr_reports.proofs.laws.programs_have_graphs.Goals as goal
-
-pub returns : goal.returns
-returns c = λ program. (graph_of program, graph_is program)

@@ -1,6 +1,0 @@
-pub mod Words
-pub mod Standing
-pub mod Printable
-pub mod Declared
-pub mod Stated
-pub mod Whole

@@ -1,5 +1,0 @@
-use Rattle.mdr_rich_meaning.proofs.Keeps.{lowering_keeps_trees}
-use Rattle.mdr_rich_meaning.proofs.laws.lowering_keeps_trees.Goals as goal
-
-pub returns : goal.returns
-returns c = lowering_keeps_trees

@@ -1,8 +1,0 @@
-// Laws, each as a function that does nothing.
-
-ghost use Rattle.mdr_rich_meaning.specs.Law.{LoweringKeepsTrees};
-
-/// Lowering keeps what a source's functions mean: the tree of each is that of its lowered body, for every fuel.
-pub fn lowering_keeps_trees()
-    ensures { LoweringKeepsTrees }
-{}

@@ -1,3 +1,0 @@
-pub mod Scripts
-pub mod Apart
-pub mod Runs

@@ -1,3 +1,0 @@
-pub mod LivingLaws
-pub mod ValueLaws
-pub mod TreeLaws

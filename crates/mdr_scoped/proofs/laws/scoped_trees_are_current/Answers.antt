@@ -1,5 +1,0 @@
-use Rattle.mdr_scoped.proofs.TreeLaws.{scoped_trees_are_current}
-use Rattle.mdr_scoped.proofs.laws.scoped_trees_are_current.Goals as goal
-
-pub returns : goal.returns
-returns c = scoped_trees_are_current

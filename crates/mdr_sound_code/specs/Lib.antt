@@ -1,4 +1,0 @@
-pub mod Knowing
-pub mod Operands
-pub mod Laws
-pub mod Steps

@@ -1,4 +1,0 @@
-pub mod WrittenSorts
-pub mod PlanTables
-pub mod PlansRead
-pub mod HalfSounding

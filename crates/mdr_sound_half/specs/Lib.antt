@@ -1,2 +1,0 @@
-pub mod HalfSources
-pub mod PlanTexts

@@ -1,4 +1,0 @@
-pub mod Plain
-pub mod Named
-pub mod Bodies
-pub mod Sources

@@ -1,5 +1,0 @@
-pub mod Sending
-pub mod Steps
-pub mod Meanings
-pub mod Endings
-pub mod Honest

@@ -1,4 +1,0 @@
-use Rattle.mdr_split_runner.proofs.running.outcome_over.Goals as goal
-
-pub returns-clause-done : goal.returns-clause-done
-returns-clause-done g c = c.in_ok-outcome.ensures.done.outcome

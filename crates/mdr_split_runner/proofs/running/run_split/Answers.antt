@@ -1,4 +1,0 @@
-use Rattle.mdr_split_runner.proofs.running.run_split.Goals as goal
-
-pub returns-clause-done : goal.returns-clause-done
-returns-clause-done g c = c.in_ok-due.ensures.done.run

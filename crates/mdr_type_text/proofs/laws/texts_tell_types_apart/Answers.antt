@@ -1,5 +1,0 @@
-use Rattle.mdr_type_text.proofs.Apart.{texts_tell_types_apart}
-use Rattle.mdr_type_text.proofs.laws.texts_tell_types_apart.Goals as goal
-
-pub returns : goal.returns
-returns c = texts_tell_types_apart

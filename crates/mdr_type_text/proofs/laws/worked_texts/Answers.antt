@@ -1,5 +1,0 @@
-use Rattle.mdr_type_text.proofs.WorkedTexts.{worked_texts}
-use Rattle.mdr_type_text.proofs.laws.worked_texts.Goals as goal
-
-pub returns : goal.returns
-returns c = worked_texts

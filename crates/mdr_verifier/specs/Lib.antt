@@ -1,4 +1,0 @@
-pub mod Runs
-pub mod Judged
-pub mod Verifies
-pub mod Laws
