@@ -1,24 +1,31 @@
 -- A run counts the messages that it sends.
-use Rattle.std.proofs.Common.{◌≡◌, ℕ, suc, ◌+◌, List, [], ◌∷◌, length, Option, Some, None, Ok, Err, refl, sym, ap, ◌∙◌, subst, arith}
+use Rattle.std.proofs.Common.{◌≡◌, ℕ, suc, ◌+◌, Bool, true, false, List, [], ◌∷◌, length, map, Option, Some, None, Ok, Err, refl, ap, arith}
+use Rattle.mdr_core.specs.declared.stop.StopKind.TheVariants as stop
+use Rattle.mdr_core.specs.Layout.{chosen}
 use Rattle.mdr_meaning.specs.declared.wire.Wire.{Wire}
 use Rattle.mdr_meaning.specs.Tree.{Asked}
 use Rattle.mdr_model.specs.declared.command.Command.{Command}
 use Rattle.mdr_model.specs.declared.message.Fault.{Fault}
+use Rattle.mdr_model.specs.declared.outcome.End.TheVariants as ends
 use Rattle.mdr_model.specs.declared.reply.Reply.{Reply}
 use Rattle.mdr_model.specs.declared.reply.Reply.TheVariants as replies
 use Rattle.mdr_model.specs.Bytes.{readings}
 use Rattle.mdr_model.specs.KernelState.{Reading}
+use Rattle.mdr_model.specs.Memory.{normal}
 use Rattle.mdr_model.specs.ReplyFaults.{reply_of}
 use Rattle.mdr_over_bytes.specs.OverBytes.{split_run_over_bytes}
-use Rattle.mdr_plain.specs.Scripts.{Beginning, Did, Enters, Opens, begin}
-use Rattle.mdr_plain.specs.World.{World, Ran, Ended, Stopped, Work}
+use Rattle.mdr_plain.specs.Atomic.{is_atomic}
+use Rattle.mdr_plain.specs.Running.{Went, Gave, Calls, interrupts}
+use Rattle.mdr_plain.specs.Scripts.{Beginning, Did, Enters, Opens, begin, returned}
+use Rattle.mdr_plain.specs.World.{World, Ran, Ended, Stopped, Work, after}
 use Rattle.mdr_bound.specs.declared.bound.Bound.{Bound}
 use Rattle.mdr_split.specs.AnyAnswers.{kernel_in}
-use Rattle.mdr_split.specs.Kernel.{SplitRun, answered, answers, applied, begins, called, calls, comes_back, downcalled, ended, entered, first_kernel, judged, next, run_from_pending, serviced, split_by, split_commands, split_run, taken, then_split}
+use Rattle.mdr_split.specs.Kernel.{answered, answers, applied, begins, called, calls, comes_back, downcalled, ended, first_kernel, gave, judged, kernel_tree, next, over, run_from_pending, runs_kernel, serviced, split_by, split_commands, split_run, taken, then_split, went}
 use Rattle.mdr_split.specs.Legal.{fault_of}
-use Rattle.mdr_split.specs.State.{Kernel, Open, Rest, Noted, Pending, Over, Waits}
+use Rattle.mdr_split.specs.State.{Kernel, Open, Base, Commanded, Down, Rest, Noted, Resumes, Pending, Over, Waits}
 use Rattle.mdr_watched.specs.Driver.{Driver, is_user}
-use Rattle.mdr_watched.specs.Watched.{downcall, held, kernel_of, may_not, serves}
+use Rattle.mdr_watched.specs.Views.{closed}
+use Rattle.mdr_watched.specs.Watched.{held, kernel_of, returns_to, serves}
 
 -- so many messages were sent before, and one more where the run waits
 abbrev Counts : ℕ → Pending → Type 0
@@ -30,35 +37,48 @@ module _ (d : Driver) where
   then_counts (Ended x w) k go n e later = later _ e
   then_counts (Stopped kind at w) k go n e later = e
 
-  called_counts : (f : ℕ) (args : List Wire) (work : Work) (k : Kernel) (cs : List Command) (n : ℕ) → k.exchanges ≡ n → Counts n (called d f args work k cs)
-  called_counts f args (Ended x w) k cs n e = ap suc e
-  called_counts f args (Stopped kind at w) k cs n e = e
+  called_counts : (f : ℕ) (args : List Wire) (depth : ℕ) (work : Work) (k : Kernel) (rest : Rest) (cs : List Command) (n : ℕ) → k.exchanges ≡ n → Counts n (called d f depth args work k rest cs)
+  called_counts f args depth (Ended x w) k rest cs n e = ap suc e
+  called_counts f args depth (Stopped kind at w) k rest cs n e = e
 
-  calls_count : (f : ℕ) (args : List Wire) (w : World) (k : Kernel) (cs : List Command) (n : ℕ) → k.exchanges ≡ n → Counts n (calls d f args w k cs)
+  calls_count : (f : ℕ) (args : List Wire) (depth : ℕ) (w : World) (k : Kernel) (rest : Rest) (cs : List Command) (n : ℕ) → k.exchanges ≡ n → Counts n (calls d f depth args w k rest cs)
   unfolding calls
-  calls_count f args w k cs n e = called_counts f args (begins d f args w) k cs n e
+  calls_count f args depth w k rest cs n e = called_counts f args depth (begins d f args w) k rest cs n e
+
+  back_counts : (v : Wire) (w : World) (k : Kernel) (upcall : Open) (rest : Rest) (cs : List Command) (n : ℕ) → k.exchanges ≡ n → Counts n (comes_back d v w k upcall rest cs)
+  unfolding comes_back
+  back_counts v w k upcall rest cs n e = ap suc e
+
+  down_counts : (ran : Ran Wire) (k : Kernel) (upcall : Open) (rest : Rest) (cs : List Command) (n : ℕ) → k.exchanges ≡ n → Counts n (downcalled d ran k upcall rest cs)
+  down_counts (Ended v w) k upcall rest cs n e = back_counts v w k upcall rest cs n e
+  down_counts (Stopped kind at w) k upcall rest cs n e = e
+
+  -- code of the kernel half ended, or it calls back
+  gave_counts : (base : Base) (ran : Ran Wire) (k : Kernel) (go : Kernel → Pending) (cs : List Command) (n : ℕ) → k.exchanges ≡ n → ((k' : Kernel) → k'.exchanges ≡ n → Counts n (go k')) → Counts n (gave d base ran k go cs)
+  gave_counts Commanded ran k go cs n e later = then_counts (returned (interrupts (kernel_of d)) ran) k go n e later
+  gave_counts (Down at f args upcall rest) ran k go cs n e later = down_counts (after ran (λ v w. returns_to d (held d) upcall.func at f args v w)) k upcall rest cs n e
+
+  went_counts : (base : Base) (g : Went) (k : Kernel) (go : Kernel → Pending) (cs : List Command) (n : ℕ) → k.exchanges ≡ n → ((k' : Kernel) → k'.exchanges ≡ n → Counts n (go k')) → Counts n (went d base g k go cs)
+  went_counts base (Gave ran) k go cs n e later = gave_counts base ran k go cs n e later
+  went_counts base (Calls at f args depth next' w) k go cs n e later = of (is_atomic w)
+    where
+      of : (b : Bool) → Counts n (chosen b (over (ends.Stop stop.Atomic (Some at)) w k) (calls d f depth (map (normal w.memory) args) w k (Resumes next' base) cs))
+      of true = e
+      of false = calls_count f (map (normal w.memory) args) depth w k (Resumes next' base) cs n e
 
   begun_counts : (b : Beginning) (cs : List Command) (k : Kernel) (go : Kernel → Pending) (n : ℕ) → k.exchanges ≡ n → ((k' : Kernel) → k'.exchanges ≡ n → Counts n (go k')) → Counts n (split_by b d cs k go)
   begun_counts (Did work) cs k go n e later = then_counts work k go n e later
-  begun_counts (Enters f args w) cs k go n e later = then_counts (entered d f args w) k go n e later
-  begun_counts (Opens f args w) cs k go n e later = calls_count f args w k cs n e
+  begun_counts (Enters f args w) cs k go n e later = went_counts Commanded (runs_kernel d (kernel_tree d f args 0 w) w) k go cs n e later
+  begun_counts (Opens f args w) cs k go n e later = calls_count f args 0 w k Noted cs n e
 
   commands_count : (cs : List Command) (k : Kernel) (n : ℕ) → k.exchanges ≡ n → Counts n (split_commands d cs k)
   unfolding split_commands
   commands_count [] k n e = e
   commands_count (c ∷ cs) k n e = begun_counts (begin (kernel_of d) (is_user d.plan) c k.world) cs k (λ k'. split_commands d cs k') n e (λ k' e'. commands_count cs k' n e')
 
-  back_counts : (v : Wire) (w : World) (k : Kernel) (upcall : Open) (rest : Rest) (cs : List Command) (n : ℕ) → k.exchanges ≡ n → Counts n (comes_back d v w k upcall rest cs)
-  unfolding comes_back
-  back_counts v w k upcall rest cs n e = ap suc e
-
   answer_counts : (results : List Wire) (w : World) (k : Kernel) (upcall : Open) (rest : Rest) (cs : List Command) (n : ℕ) → k.exchanges ≡ n → Counts n (answers d results w k upcall rest cs)
   unfolding answers
   answer_counts results w k upcall rest cs n e = ap suc e
-
-  down_counts : (ran : Ran Wire) (k : Kernel) (upcall : Open) (rest : Rest) (cs : List Command) (n : ℕ) → k.exchanges ≡ n → Counts n (downcalled d ran k upcall rest cs)
-  down_counts (Ended v w) k upcall rest cs n e = back_counts v w k upcall rest cs n e
-  down_counts (Stopped kind at w) k upcall rest cs n e = e
 
   service_counts : (asked : Asked) (ran : Ran (List Wire)) (k : Kernel) (upcall : Open) (rest : Rest) (cs : List Command) (n : ℕ) → k.exchanges ≡ n → Counts n (serviced d asked ran k upcall rest cs)
   service_counts asked (Ended results w) k upcall rest cs n e = answer_counts results w k _ rest cs n e
@@ -68,8 +88,12 @@ module _ (d : Driver) where
   unfolding taken applied
   taken_counts (replies.Return ticks v runs) k upcall Noted cs n e =
       then_counts (ended d v (applied ticks runs k).world) (applied ticks runs k) (λ k'. split_commands d cs k') n e (λ k' e'. commands_count cs k' n e')
+  taken_counts (replies.Return ticks v runs) k upcall (Resumes next' base) cs n e =
+      went_counts base (runs_kernel d (next' v) (closed (applied ticks runs k).world)) (applied ticks runs k) (λ k'. split_commands d cs k') cs n e (λ k' e'. commands_count cs k' n e')
   taken_counts (replies.Down ticks at depth func args runs) k upcall rest cs n e =
-      down_counts (downcall d (held d) upcall.func may_not at func args depth (applied ticks runs k).world) (applied ticks runs k) upcall rest cs n e
+      let k' : Kernel = applied ticks runs k in
+      let passed : List Wire = map (normal k'.world.memory) args in
+      went_counts (Down at func passed upcall rest) (runs_kernel d (kernel_tree d func passed depth k'.world) k'.world) k' (λ k''. split_commands d cs k'') cs n e (λ k'' e''. commands_count cs k'' n e'')
   taken_counts (replies.Ask ticks at service args shapes bytes runs) k upcall rest cs n e =
       let asked : Asked = record { service = service; at = at; args = args; shapes = shapes; bytes = bytes } in
       service_counts asked (serves d (held d) upcall.func asked (applied ticks runs k).world) (applied ticks runs k) upcall rest cs n e

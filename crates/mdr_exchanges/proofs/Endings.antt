@@ -288,7 +288,7 @@ module _ (d : Driver) (script : Bound) (budget : ℕ) (es : List Exchange) where
   unfolding split_run_over_bytes
   are_few end k messages ticks h count clock =
       let l : Kernel = kernel_in (run_over d script budget es).pending in
-      let paid : 2 * l.exchanges ≤ 4 * l.world.clock.ticks + 6 * l.world.kept.calls = few_everywhere d script budget (readings (answers_of es)) in
+      let paid : 2 * l.exchanges ≤ 8 * l.world.clock.ticks + 6 * l.world.kept.calls = few_everywhere d script budget (readings (answers_of es)) in
       let sent : l.exchanges ≡ k.exchanges = ap (λ (x : Kernel). x.exchanges) h.kernel in
       let spent : l.world.clock.ticks ≡ k.world.clock.ticks = ap (λ (x : Kernel). x.world.clock.ticks) h.kernel in
       omega (arith, paid, sent, spent, count, clock)

@@ -74,6 +74,7 @@ module _ (program : Program) (plan : Plan) (script : Bound) (budget : ℕ) (es :
         world = ap (λ (x : Kernel). x.world) kernel ∙ w.world;
         own = subst (λ (x : Outcome). IsOwn x.end) (sym is) (owns program (finish end k.world) w.own);
         messages = omega (arith, w.messages, exchanged, messages, calls, ticks);
+        fewer = λ nothing. omega (arith, w.fewer nothing, exchanged, messages, calls, ticks);
       }
 
   -- a run that is over, and one that waits
@@ -81,7 +82,7 @@ module _ (program : Program) (plan : Plan) (script : Bound) (budget : ℕ) (es :
   means sound ran runnable honest = of ran_over.pending refl
     where
       law : IsOneMemoryOverBytes d script budget
-      law = split_over_bytes_is_one_memory program plan script budget sound runnable.nothing_back runnable.bodies runnable.planned runnable.fits
+      law = split_over_bytes_is_one_memory program plan script budget sound runnable.bodies runnable.planned runnable.fits
 
       fair : IsHonestOverBytes d [] (map text ran_over.sent) (answers_of es)
       fair = subst (λ (sent : List (List ℕ)). IsHonestOverBytes d [] sent (answers_of es)) ran.messages (honest_answers d [] es honest)

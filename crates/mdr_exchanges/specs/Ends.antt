@@ -62,9 +62,9 @@ IsAsBefore d script budget es memory (ends.FarFault exchange) = HasFailed d scri
 
 -- ---- any far side
 
--- the messages are at most 4 for each tick and 6 for each command begun
+-- the messages are at most 8 for each tick and 6 for each command begun
 abbrev pub AreFew : Driver → Bound → ℕ → List Exchange → (messages ticks : ℕ) → Type 0
-AreFew d script budget es messages ticks = messages ≤ 4 * ticks + 6 * (kernel_in (run_over d script budget es).pending).world.kept.calls
+AreFew d script budget es messages ticks = messages ≤ 8 * ticks + 6 * (kernel_in (run_over d script budget es).pending).world.kept.calls
 
 -- ---- laws
 
@@ -77,4 +77,4 @@ EndedRunsAreAsBefore =
 abbrev pub ExchangesAreFew : Type 0
 ExchangesAreFew =
     (d : Driver) (script : Bound) (budget : ℕ) (es : List Exchange) → sent_of es ≡ map text (run_over d script budget es).sent
-    → length es + length (answers_of es) ≤ 4 * (kernel_in (run_over d script budget es).pending).world.clock.ticks + 6 * (kernel_in (run_over d script budget es).pending).world.kept.calls
+    → length es + length (answers_of es) ≤ 8 * (kernel_in (run_over d script budget es).pending).world.clock.ticks + 6 * (kernel_in (run_over d script budget es).pending).world.kept.calls

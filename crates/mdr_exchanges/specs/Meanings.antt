@@ -23,16 +23,16 @@ abbrev pub Honest : Driver → (before : List (List ℕ)) → List Exchange → 
 Honest d before [] = Unit {0}
 Honest d before (e ∷ es) = IfSome e.got (λ reply. IsHonestReply d before e.sent reply) × Honest d (before ++ e.sent ∷ []) es
 
--- the outcome of the watched run on one memory, and the state in which it ends, reached within 4 messages for each tick and 6 for each command that called a function
+-- the outcome of the watched run on one memory, and the state in which it ends, reached within 8 messages for each tick and 6 for each command that called a function, and within 4 for each tick where nothing is called back
 pub record IsMeant (program : Program) (plan : Plan) (script : Bound) (budget : ℕ) (es : List Exchange) (o : Outcome) : Type 0 where
   pub outcome : o ≡ outcome_of program (watched program plan script budget)
   pub world : (kernel_in (run_over (driver_of program plan) script budget es).pending).world ≡ (watched program plan script budget).world
   pub own : IsOwn o.end
-  pub messages : 2 * length es ≤ 4 * o.ticks + 6 * (watched program plan script budget).world.kept.calls
+  pub messages : 2 * length es ≤ 8 * o.ticks + 6 * (watched program plan script budget).world.kept.calls
+  pub fewer : CallsNothingBack program → 2 * length es ≤ 4 * o.ticks + 6 * (watched program plan script budget).world.kept.calls
 
--- each function has a body and calls nothing back, the plan is the program's, and the script's commands fit it
+-- each function has a body, the plan is the program's, and the script's commands fit it
 pub record IsRunnable (program : Program) (plan : Plan) (script : Bound) : Type 0 where
-  pub nothing_back : CallsNothingBack program
   pub bodies : HaveBodies program
   pub planned : IsPlanOf program plan
   pub fits : IsScript program script

@@ -10,7 +10,7 @@ use Rattle.mdr_outside.specs.declared.far.Exchange.{Exchange}
 use Rattle.mdr_outside.specs.declared.far.LoadAnswer.{LoadAnswer}
 use Rattle.mdr_outside.specs.declared.far.LoadAnswer.TheVariants as answers
 use Rattle.mdr_outside.specs.declared.far.Loaded.{Loaded}
-use Rattle.mdr_outside.specs.Far.{loaded_with, LoadsAs}
+use Rattle.mdr_outside.specs.Far.{IsLoaded, LoadsAs, loaded_with}
 use Rattle.mdr_watched.specs.Driver.{driver_of}
 use Rattle.mdr_far.specs.Halves.{HalfState, IsLoadedFrom}
 use Rattle.mdr_far.specs.Fars.{exchanges_of, Serves, Answered, IsOpened}
@@ -109,3 +109,11 @@ pub kept_empty : (s : Inside) → s.loaded ≡ None → s.half ≡ None → IsKe
 kept_empty s e f =
     let both : AreKept s.loaded s.half = subst (λ (l : Option Loaded). AreKept l s.half) (sym e) (subst (λ (h : Option HalfState). AreKept None h) (sym f) (refl, tt)) in
     record { honest = both.0; serves = both.1 }
+
+-- one that was loaded holds a half
+pub half_there : (s : Inside) → IsKeptFar s → IsLoaded s.loaded → s.half ≡ None → ⊥
+half_there s kept loaded none = of s.loaded (subst (Serves s.loaded) none kept.serves) loaded
+  where
+    of : (l : Option Loaded) → Serves l None → IsLoaded l → ⊥
+    of None h k = k
+    of (Some l) h k = h k

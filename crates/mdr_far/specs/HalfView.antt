@@ -1,6 +1,6 @@
 -- protocol
 -- The fields of the user half, as what callers see, and what holds of them.
-use Rattle.std.specs.Prelude.{[], IfSome, option_map}
+use Rattle.std.specs.Prelude.{◌≡◌, true, false, [], IfSome, is_some, option_map}
 use Rattle.mdr_core.specs.Sound.{IsSound}
 use Rattle.mdr_exchanges.specs.Runs.{sent_of}
 use Rattle.mdr_exchanges.specs.Meanings.{Honest}
@@ -17,4 +17,6 @@ pub record IsKeptHalf (s : Inside) : Type 0 where
   pub sound : IsSound s.program
   pub fit : IsFit s.plan s.program
   pub honest : Honest (driver_of s.program s.plan) [] s.exchanges
+  -- where no state is kept memory was wanting
+  pub wanting : is_some s.state ≡ false → is_some s.wanted ≡ true
   pub follows : IfSome s.state (λ state. Follows (driver_of s.program s.plan) (readings (sent_of s.exchanges)) state)

@@ -32,12 +32,14 @@ use mdr_user_memory::UserMemory;
 use std::alloc::Global;
 use std::marker::Model;
 
-/// The user half of a driver: it gets messages and replies to them. Once memory was wanting it replies no more.
+/// The user half of a driver: it gets messages and replies to them. Once memory was wanting it replies no more, and
+/// answers that want from then on.
 #[derive(Drop)]
 pub struct UserHalf {
     program: Program,
     plan: Plan,
     state: Option<State>,
+    wanted: Option<OutOfMemory>,
     exchanges: Items<Exchange>,
 }
 
@@ -84,6 +86,16 @@ fn recorded(
     Ok(reply)
 }
 
+/// The want of memory that there was.
+fn wanting(wanted: Option<OutOfMemory>) -> OutOfMemory
+    requires { is_some wanted ≡ true }
+{
+    match wanted {
+        Some(error) => error,
+        None => unreachable!(),
+    }
+}
+
 fn half_of(alloc: Global, source: HalfSource, state: State) -> UserHalf
     requires sound { IsSound source.program }
     requires fit { IsFit source.plan source.program }
@@ -95,6 +107,7 @@ fn half_of(alloc: Global, source: HalfSource, state: State) -> UserHalf
         program,
         plan,
         state: Some(state),
+        wanted: None,
         exchanges: Items::new(alloc),
     }
 }
@@ -141,7 +154,7 @@ impl UserHalf {
         ensures held { IfOk result (λ reply. is_some self.old.memory ≡ true) }
     {
         let Some(mut state) = self.state.take() else {
-            return Err(OutOfMemory::unmet());
+            return Err(wanting(self.wanted));
         };
         let reply = reply_to(alloc, &self.program, &self.plan, &mut state, bytes);
         match recorded(alloc, &mut self.exchanges, bytes, reply) {
@@ -150,7 +163,10 @@ impl UserHalf {
                 put(&mut self.state, Some(state));
                 Ok(reply)
             }
-            Err(error) => given_up(error, state),
+            Err(error) => {
+                self.wanted = Some(error);
+                given_up(error, state)
+            }
         }
     }
 

@@ -149,7 +149,7 @@ impl Far for LocalFar {
                 self.loaded = Some(loaded);
                 answer
             }
-            Err(_) => LoadAnswer::OutOfMemory,
+            Err(error) => LoadAnswer::from(error),
         }
     }
 
@@ -161,12 +161,12 @@ impl Far for LocalFar {
                     half.replies();
                     DeliverAnswer::Ok(Items::from_vec(reply))
                 }
-                Err(_) => {
+                Err(error) => {
                     half.replies();
-                    DeliverAnswer::OutOfMemory
+                    DeliverAnswer::from(error)
                 }
             },
-            None => DeliverAnswer::OutOfMemory,
+            None => unreachable!(),
         }
     }
 

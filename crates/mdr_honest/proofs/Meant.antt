@@ -10,7 +10,6 @@ use Rattle.mdr_model.specs.KernelState.{Reading}
 use Rattle.mdr_model.specs.Reading.{reading_of}
 use Rattle.mdr_model.specs.Text.{text}
 use Rattle.mdr_msg.specs.WellFormed.{IsMessage}
-use Rattle.mdr_source.proofs.NothingBack.{body_calls_nothing_back}
 use Rattle.mdr_source.specs.declared.outcome.Source.{Source}
 use Rattle.mdr_split.specs.User.{user_reply}
 use Rattle.mdr_watched.specs.Driver.{Driver, driver_of}
@@ -60,7 +59,6 @@ meaning bytes script_bytes source plan script budget l es o cut scripted texts h
     let sound = source_sound bytes source s in
     let runnable : IsRunnable source.program plan script =
     record {
-      nothing_back = body_calls_nothing_back source.program.funcs s.no_back;
       bodies = source_bodies bytes source s;
       planned = its_plan source.program plan cut.plan_is;
       fits = scripts_fit source.program script_bytes script sound scripted;

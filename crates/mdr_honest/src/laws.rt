@@ -45,8 +45,8 @@ pub fn scripts_fit()
     ensures { ScriptsFit }
 {}
 
-/// A run over an honest far side means what one memory does, within 4 messages for each tick and 6 for each command that
-/// called a function, or the far side failed.
+/// A run over an honest far side means what one memory does, within 8 messages for each tick and 6 for each command that
+/// called a function (4 for each tick where nothing is called back), or the far side failed.
 pub fn run_is_meaning()
     ensures { RunIsMeaning }
 {}

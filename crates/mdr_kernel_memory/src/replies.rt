@@ -14,10 +14,10 @@ pub fn store_runs<'a>(guarded: Guarded<'a>, runs: &[Run]) -> Guarded<'a>
     requires { AreStorable guarded.world.memory runs.now }
     ensures { result ≡ holding (put_runs runs.now guarded.entry.world.memory) guarded.entry }
 {
-    let Parts { world, set } = guarded.parts();
+    let Parts { world, sets } = guarded.parts();
     let mut world = world;
     put_runs(&mut world, runs);
-    Guarded::beside(world, set)
+    Guarded::beside(world, sets)
 }
 
 /// So many ticks pass, where as many are left.
@@ -25,10 +25,10 @@ pub fn spend<'a>(guarded: Guarded<'a>, ticks: u64) -> Guarded<'a>
     requires { ticks ≤ guarded.world.clock.rest }
     ensures { result ≡ holding_at guarded.entry.world.memory (advanced ticks guarded.entry.world.clock) guarded.entry }
 {
-    let Parts { world, set } = guarded.parts();
+    let Parts { world, sets } = guarded.parts();
     let mut world = world;
     world.count(ticks);
-    Guarded::beside(world, set)
+    Guarded::beside(world, sets)
 }
 
 /// Both: a reply's ticks pass, and its runs are stored.

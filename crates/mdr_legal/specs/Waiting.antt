@@ -1,6 +1,6 @@
 -- protocol
 -- Where the kernel half waits, as far as an answer is judged by it.
-use Rattle.std.specs.Prelude.{◌≡◌, ℕ, false, List, [], ◌∷◌, None}
+use Rattle.std.specs.Prelude.{◌≡◌, ℕ, zero, suc, false, List, [], ◌∷◌, length, None}
 use Rattle.mdr_device.specs.Machines.{made}
 use Rattle.mdr_legal.specs.declared.standing.Standing.{Standing}
 use Rattle.mdr_model.specs.declared.memory.Cell.{Cell}
@@ -18,17 +18,24 @@ pub record IsWhere (s : Standing) (k : Kernel) (upcall : Open) : Type 0 where
   pub ticks : k.world.clock.ticks ≡ s.ticks
   pub rest : k.world.clock.rest ≡ s.rest
   pub calls : k.world.kept.calls ≡ s.calls
+  pub below : length k.world.views ≡ suc s.below
   pub func : upcall.func ≡ s.func
+  pub depth : upcall.depth ≡ s.depth
   pub entered : upcall.entered ≡ s.entered.now
 
 -- ---- a state with no more in it than an answer is judged by
 
-abbrev pub kernel_with : (memory agreed : Memory) → (view : List Cell) → (exchanges ticks rest calls : ℕ) → Kernel
-kernel_with memory agreed view exchanges ticks rest calls = record {
+-- so many sets, of which no answer is judged by any cell
+abbrev pub sets_below : ℕ → List (List Cell)
+sets_below zero = []
+sets_below (suc n) = [] ∷ sets_below n
+
+abbrev pub kernel_with : (memory agreed : Memory) → (view : List Cell) → (below exchanges ticks rest calls : ℕ) → Kernel
+kernel_with memory agreed view below exchanges ticks rest calls = record {
   world = record {
     memory = memory;
     lives = [];
-    views = view ∷ [];
+    views = view ∷ sets_below below;
     clock = record { ticks = ticks; rest = rest; device = made [] [] };
     kept = record { events = []; calls = calls; handler = None; in_handler = false; allocations = 0; fails = [] };
   };
@@ -40,7 +47,7 @@ abbrev pub driver_at : Standing → Driver
 driver_at s = driver_of s.program.now s.plan.now
 
 abbrev pub kernel_at : Standing → Kernel
-kernel_at s = kernel_with s.memory.now s.agreed.now s.view.now s.exchanges s.ticks s.rest s.calls
+kernel_at s = kernel_with s.memory.now s.agreed.now s.view.now s.below s.exchanges s.ticks s.rest s.calls
 
 abbrev pub open_at : Standing → Open
-open_at s = record { func = s.func; entered = s.entered.now }
+open_at s = record { func = s.func; depth = s.depth; entered = s.entered.now }

@@ -93,7 +93,7 @@ pub(crate) fn has_down_stub(standing: Standing, func: u32) -> bool
     ensures { result ≡ has_down_stub (driver_at standing.entry) func }
 {
     match standing.plan.down.as_slice().get(func as usize) {
-        Some(has) => *has,
+        Some(has) => *has && is_kernel_half(standing, func),
         None => false,
     }
 }

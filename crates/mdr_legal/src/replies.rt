@@ -38,16 +38,17 @@ fn first_of(found: Option<Fault>, last: Option<Fault>) -> Option<Fault>
     }
 }
 
-/// Whether a reply that asks for something is awaited: the run keeps to 4 messages for each tick and 6 for each
-/// command.
+/// Whether a reply that asks for something is awaited: the run keeps to 8 messages for each tick and 6 for each
+/// command, with those that end the upcalls that are open.
 #[tactic(auto, unfolding(mdr_split::specs::Legal::is_awaited))]
 fn is_awaited(standing: Standing, ticks: u64) -> bool
     ensures { result ≡ is_awaited (kernel_at standing.entry) ticks }
 {
     let told = ticks.min(standing.rest);
-    let sent = 2 * standing.exchanges as u128 + 2;
+    let ending = standing.below as u128 + 1;
+    let sent = 2 * standing.exchanges as u128 + 2 * ending;
     let ticked = standing.ticks as u128 + told as u128;
-    sent <= 4 * ticked + 6 * standing.calls as u128
+    sent <= 8 * ticked + 6 * standing.calls as u128
 }
 
 fn has_none(serials: &[u64]) -> bool
@@ -76,10 +77,11 @@ fn return_fault(standing: Standing, ticks: u64, value: Wire, runs: &[Run]) -> Op
     }
 }
 
-fn is_depth(depth: u32) -> bool
-    ensures { result ≡ (nat_lt 0 depth && nat_le depth 255) }
+/// Whether so many active functions are more than before the upcall, and no more than there can be.
+fn is_depth(before: u32, depth: u32) -> bool
+    ensures { result ≡ (nat_lt before depth && nat_le depth 255) }
 {
-    0 < depth && depth <= 255
+    before < depth && depth <= 255
 }
 
 /// The faults of a downcall behind its depth.
@@ -118,7 +120,7 @@ fn down_fault(
         fault(RefuseKind::TooManyTicks)
     } else if !is_user_place(standing, at) {
         fault(RefuseKind::BadPlace)
-    } else if !is_depth(depth) {
+    } else if !is_depth(standing.depth, depth) {
         fault(RefuseKind::BadDepth)
     } else {
         stub_fault(standing, func, args, runs)

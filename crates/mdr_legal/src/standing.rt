@@ -5,7 +5,8 @@ use mdr_core::{Plan, Program};
 
 /// Where the kernel half waits for an answer, as far as an answer is judged by it: the driver and its plan, the functions
 /// whose addresses its program takes, the agreed copy, the memory, the cells that user code may touch, the function that
-/// was called and the objects of locals that were born in it and live, and what was counted.
+/// the innermost upcall called, how many functions were active before it and the objects of locals that were born in it and
+/// live, how many upcalls are open below it, and what was counted.
 #[derive(Clone, Copy)]
 pub struct Standing<'a> {
     pub program: &'a Program,
@@ -15,7 +16,9 @@ pub struct Standing<'a> {
     pub memory: &'a RisingBlocks,
     pub view: &'a CellList,
     pub func: u32,
+    pub depth: u32,
     pub entered: &'a [u64],
+    pub below: u64,
     pub exchanges: u64,
     pub ticks: u64,
     pub rest: u64,

@@ -26,7 +26,7 @@ module _ (d : Driver) (k : Kernel) (upcall : Open) (rest : Rest) where
       unless (is_awaited k ticks) refusal.NotAwaited 0
       ∷ ticks_fault k ticks
       ∷ unless (is_user_place d at) refusal.BadPlace 0
-      ∷ unless (nat_lt 0 depth && nat_le depth 255) refusal.BadDepth 0
+      ∷ unless (nat_lt upcall.depth depth && nat_le depth 255) refusal.BadDepth 0
       ∷ unless (has_down_stub d func) refusal.NoStub 0
       ∷ args_fault (fits (kernel_places d k)) 0 (params_of (slice_get d.program.funcs func)) args
       ∷ reply_runs_fault d k runs

@@ -1,5 +1,6 @@
--- What the kernel half does takes no tick back and begins no command, in any driver.
-use Rattle.std.proofs.Common.{◌≡◌, ℕ, zero, suc, ◌≤◌, Bool, true, false, ◌||◌, List, [], ◌∷◌, Option, Some, None, Result, Ok, Err, refl, map, nat_lt, arith, le_refl}
+-- What the kernel half does takes no tick back, begins no command, and leaves as many upcalls open as there were, in any driver.
+use Rattle.std.proofs.Common.{◌≡◌, ℕ, zero, suc, ◌+◌, ◌≤◌, Bool, true, false, ◌||◌, List, [], ◌∷◌, ◌++◌, length, map, Option, Some, None, Result, Ok, Err, refl, ◌∙◌, nat_lt, arith, le_refl}
+use Rattle.std.proofs.lemmas.List.{length-map}
 use Rattle.mdr_core.specs.declared.place.At.{At}
 use Rattle.mdr_core.specs.declared.program.Program.{Program}
 use Rattle.mdr_core.specs.declared.stop.StopKind.{StopKind}
@@ -25,18 +26,23 @@ use Rattle.mdr_plain.specs.Locks.{acquire, release}
 use Rattle.mdr_plain.specs.Running.{Before, handled, interrupted, interrupts, nothing, call, run}
 use Rattle.mdr_plain.specs.Scripts.{idle, idled, returned}
 use Rattle.mdr_plain.specs.Services.{allocated, as_now, as_served, asked_once_more, fails_now, freed, freed_by, gives, gives_none, is_no_block, register_read, register_written, requested, served, served_by, stops, was_read, when_changed, with_device}
-use Rattle.mdr_plain.specs.Storage.{births, born, deaths, died, died_at, new_of, remembers, with_memory}
+use Rattle.mdr_plain.specs.Storage.{births, born, deaths, died, died_at, new_of, next_serial, remembers, with_memory, without}
 use Rattle.mdr_plain.specs.World.{World, Ran, Ended, Stopped, Work, advanced, after, counted, given, left, noted, then}
 use Rattle.mdr_watched.specs.Driver.{Driver, result_roots, touched_by}
-use Rattle.mdr_watched.specs.Views.{renewed, taken, top}
-use Rattle.mdr_watched.specs.Watched.{downcall, held, kernel_of, may_not, serves}
+use Rattle.mdr_watched.specs.Views.{below, new_cells, renewed, taken, top}
+use Rattle.mdr_watched.specs.Watched.{downcall, held, kernel_of, may_not, returns_to, serves}
 
--- since the first state no tick was taken back, and no command began to call a function
+-- since the first state no tick was taken back, no command began to call a function, and as many upcalls are open
 abbrev pub IsLater : (first w : World) → Type 0
-IsLater first w = (first.clock.ticks ≤ w.clock.ticks) × (w.kept.calls ≡ first.kept.calls)
+IsLater first w = (first.clock.ticks ≤ w.clock.ticks) × (w.kept.calls ≡ first.kept.calls) × (length w.views ≡ length first.views)
 
 pub itself : (w : World) → IsLater w w
-itself w = (le_refl w.clock.ticks, refl)
+itself w = (le_refl w.clock.ticks, refl, refl)
+
+-- another set in the place of the innermost
+pub same_height : (sets : List (List Cell)) → 1 ≤ length sets → suc (length (below sets)) ≡ length sets
+same_height [] some = absurd (omega (arith, some))
+same_height (set ∷ sets) some = refl
 
 module _ (first : World) where
   -- work that leaves a later state
@@ -62,7 +68,7 @@ module _ (first : World) where
 
   goes_counted : {A : Type 0} (n : ℕ) (at : Option At) (w : World) (go : World → Ran A) → IsLater first w → ((w' : World) → IsLater first w' → Leads (go w')) → Leads (counted n at w go)
   goes_counted zero at w go e each = so e
-  goes_counted (suc n) at w go e each = each (record w { clock = advanced 1 w.clock }) (omega (arith, e.0), e.1)
+  goes_counted (suc n) at w go e each = let later : first.clock.ticks ≤ w.clock.ticks + 1 = omega (arith, e.0) in each (record w { clock = advanced 1 w.clock }) (later, e.1, e.2)
 
   goes_stored : {A : Type 0} (w : World) (r : Result Memory StopKind) (at : At) (go : World → Ran A) → IsLater first w → ((w' : World) → IsLater first w' → Leads (go w')) → Leads (given (remembers w r) at w go)
   goes_stored w (Ok m) at go e each = each (with_memory w m) e
@@ -78,14 +84,14 @@ module _ (first : World) where
   unfolding born
   born_later program n w e = e
 
-  births_later : (program : Program) (kind : BirthKind) (shapes : List Shape64) (w : World) → IsLater first w → IsLater first (births program kind shapes w).memory
+  pub births_later : (program : Program) (kind : BirthKind) (shapes : List Shape64) (w : World) → IsLater first w → IsLater first (births program kind shapes w).memory
   unfolding births
   births_later program kind [] w e = e
   births_later program kind (s ∷ shapes) w e = births_later program kind shapes _ (born_later program (new_of kind s w) w e)
 
   died_later : (serial : ℕ) (w : World) → IsLater first w → IsLater first (died serial w)
   unfolding died
-  died_later serial w e = e
+  died_later serial w e = (e.0, e.1, length-map w.views (without serial) ∙ e.2)
 
   died_at_later : (p : Wire) (w : World) → IsLater first w → IsLater first (died_at p w)
   died_at_later (wire.Ptr p) w e = died_later p.serial w e
@@ -96,7 +102,7 @@ module _ (first : World) where
   died_at_later (wire.Lock s) w e = e
   died_at_later wire.NoValue w e = e
 
-  deaths_later : (ps : List Wire) (w : World) → IsLater first w → IsLater first (deaths ps w)
+  pub deaths_later : (ps : List Wire) (w : World) → IsLater first w → IsLater first (deaths ps w)
   deaths_later [] w e = e
   deaths_later (p ∷ ps) w e = deaths_later ps (died_at p w) (died_at_later p w e)
 
@@ -152,7 +158,7 @@ module _ (first : World) where
   served_by_leads program a (Some Leave) w e = so (deaths_later a.args w e)
   served_by_leads program a None w e = so e
 
-  served_leads : (program : Program) (a : Asked) (w : World) → IsLater first w → Leads (served program a w)
+  pub served_leads : (program : Program) (a : Asked) (w : World) → IsLater first w → Leads (served program a w)
   unfolding served
   served_leads program a w e = served_by_leads program (as_now w a) (service_numbered a.service) w e
 
@@ -190,6 +196,7 @@ module _ (first : World) where
     unfolding interrupts
     interrupts_lead n w e = handled_leads n (due w) w e
 
+    -- a function of the kernel half is called, and calls nothing back
     pub kernel_call_leads : (f : ℕ) (args : List Wire) (depth : ℕ) (w : World) → IsLater first w → Leads (call (kernel_of d) (interrupts (kernel_of d)) f args depth w)
     kernel_call_leads f args depth w e = call_leads (interrupts (kernel_of d)) interrupts_lead f args depth w e
 
@@ -210,10 +217,17 @@ module _ (first : World) where
     goes_taken (Ok set) at w go e each = each set
     goes_taken (Err failing) at w go e each = so e
 
-    pub downcall_leads : (t : ℕ) (at : At) (f : ℕ) (args : List Wire) (depth : ℕ) (w : World) → IsLater first w → Leads (downcall d (held d) t may_not at f args depth w)
-    downcall_leads t at f args depth w e =
-        goes _ _ (kernel_call_leads f _ depth w e)
-        (λ v w' e'. goes_taken (visible d.program (touched_by d.plan t) w'.memory (top w'.views) (result_roots d.program f (map (normal w.memory) args) v)) at w' (λ set. Ended v (renewed set w')) e' (λ set. so e'))
+    renewed_later : (set : List Cell) (w : World) → 1 ≤ length first.views → IsLater first w → IsLater first (renewed set w)
+    renewed_later set w some e =
+        let here : 1 ≤ length w.views = omega (arith, some, e.2) in (e.0, e.1, same_height w.views here ∙ e.2)
 
-    pub asks_lead : (t : ℕ) (a : Asked) (w : World) → IsLater first w → Leads (serves d (held d) t a w)
-    asks_lead t a w e = goes _ _ (served_leads d.program a w e) (λ results w' e'. so e')
+    -- a downcall gave a result, in an upcall
+    pub returns_lead : (t : ℕ) (at : At) (f : ℕ) (args : List Wire) (v : Wire) (w : World) → 1 ≤ length first.views → IsLater first w → Leads (returns_to d (held d) t at f args v w)
+    returns_lead t at f args v w some e =
+        goes_taken (visible d.program (touched_by d.plan t) w.memory (top w.views) (result_roots d.program f args v)) at w (λ set. Ended v (renewed set w)) e (λ set. so (renewed_later set w some e))
+
+    pub downcall_leads : (t : ℕ) (at : At) (f : ℕ) (args : List Wire) (depth : ℕ) (w : World) → 1 ≤ length first.views → IsLater first w → Leads (downcall d (held d) t may_not at f args depth w)
+    downcall_leads t at f args depth w some e = goes _ _ (kernel_call_leads f _ depth w e) (λ v w' e'. returns_lead t at f (map (normal w.memory) args) v w' some e')
+
+    pub asks_lead : (t : ℕ) (a : Asked) (w : World) → 1 ≤ length first.views → IsLater first w → Leads (serves d (held d) t a w)
+    asks_lead t a w some e = goes _ _ (served_leads d.program a w e) (λ results w' e'. so (renewed_later (top w'.views ++ new_cells d.program (touched_by d.plan t) (next_serial w) w'.memory) w' some e'))

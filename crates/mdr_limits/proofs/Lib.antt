@@ -1,4 +1,5 @@
 pub mod Faultless
 pub mod Contained
 pub mod FewSteps
+pub mod SpacedTrees
 pub mod FewMessages

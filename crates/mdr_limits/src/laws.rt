@@ -8,7 +8,7 @@ pub fn legal_answers_are_contained()
     ensures { LegalIsContained }
 {}
 
-/// Whatever the answers are, the messages sent and answered are at most 4 for each tick and 6 for each command that
+/// Whatever the answers are, the messages sent and answered are at most 8 for each tick and 6 for each command that
 /// called a function.
 pub fn messages_are_few()
     ensures { MessagesAreFew }

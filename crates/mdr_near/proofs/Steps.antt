@@ -30,12 +30,12 @@ use Rattle.mdr_outside.specs.Far.{exchange}
 use Rattle.mdr_plain.specs.Scripts.{first_world}
 use Rattle.mdr_bound.specs.declared.bound.Bound.{Bound}
 use Rattle.mdr_split.specs.Kernel.{SplitRun, beginning, first_kernel, next, run_from_pending, split_commands}
-use Rattle.mdr_split.specs.State.{Kernel, Noted, Pending, Over, Waits}
+use Rattle.mdr_split.specs.State.{Kernel, Pending, Over, Waits}
 use Rattle.mdr_turns.specs.declared.state.Pending.{Pending as CodePending}
 use Rattle.mdr_turns.specs.declared.state.Pending.TheVariants as pending
 use Rattle.mdr_turns.specs.declared.state.Waiting.{Waiting}
 use Rattle.mdr_turns.specs.Coming.{ComesTo, KeptFor}
-use Rattle.mdr_turns.specs.States.{StandsFor, begun_of, kernel_of, open_of}
+use Rattle.mdr_turns.specs.States.{StandsFor, begun_of, kernel_of, open_of, rest_of}
 use Rattle.mdr_watch.specs.declared.watch.Watch.{Watch}
 use Rattle.mdr_watched.specs.Driver.{Driver, driver_of}
 use Rattle.mdr_world.specs.Driven.{Driven, driver}
@@ -44,17 +44,17 @@ use Rattle.mdr_world.specs.Driven.{Driven, driver}
 
 -- the script begins in the first world
 pub first_comes : (program : Program) (plan : Plan) (script : Bound) (ticks : ℕ) (cs : List Command) (w : Driven) (p : CodePending) → cs ≡ script.commands → w ≡ driver program (first_world (known_of program) script ticks)
-    → ComesTo p cs (split_commands (driver_of program plan) cs (beginning w.world)) → ComesTo p script.commands (split_commands (driver_of program plan) script.commands (first_kernel (driver_of program plan) script ticks))
+    → ComesTo (driver_of program plan) p cs (split_commands (driver_of program plan) cs (beginning w.world)) → ComesTo (driver_of program plan) p script.commands (split_commands (driver_of program plan) script.commands (first_kernel (driver_of program plan) script ticks))
 unfolding first_kernel kernel_side
 first_comes program plan script ticks cs w p are is c =
-    subst (λ (xs : List Command). ComesTo p xs (split_commands (driver_of program plan) xs (beginning (first_world (known_of program) script ticks)))) are
-    (subst (λ (x : Driven). ComesTo p cs (split_commands (driver_of program plan) cs (beginning x.world))) is c)
+    subst (λ (xs : List Command). ComesTo (driver_of program plan) p xs (split_commands (driver_of program plan) xs (beginning (first_world (known_of program) script ticks)))) are
+    (subst (λ (x : Driven). ComesTo (driver_of program plan) p cs (split_commands (driver_of program plan) cs (beginning x.world))) is c)
 
 module _ (d : Driver) where
   -- the next state, for the commands of the script
-  pub later_comes : (script cs : List Command) (w : Waiting) (reading : Reading) (p : CodePending) → cs ≡ script → ComesTo p cs (next d reading (kernel_of w) (open_of w) Noted (drop (begun_of w) cs))
-      → ComesTo p script (next d reading (kernel_of w) (open_of w) Noted (drop (begun_of w) script))
-  later_comes script cs w reading p are c = subst (λ (xs : List Command). ComesTo p xs (next d reading (kernel_of w) (open_of w) Noted (drop (begun_of w) xs))) are c
+  pub later_comes : (script cs : List Command) (w : Waiting) (reading : Reading) (p : CodePending) → cs ≡ script → ComesTo d p cs (next d reading (kernel_of w) (open_of w) (rest_of d w.behind.frames) (drop (begun_of w) cs))
+      → ComesTo d p script (next d reading (kernel_of w) (open_of w) (rest_of d w.behind.frames) (drop (begun_of w) script))
+  later_comes script cs w reading p are c = subst (λ (xs : List Command). ComesTo d p xs (next d reading (kernel_of w) (open_of w) (rest_of d w.behind.frames) (drop (begun_of w) xs))) are c
 
 -- the answer was read, and not taken
 pub broke_unread : (m : Message) (calls calls' : List FarCall) (es es' : List Exchange) (n n' : ℕ) (answer : Option Reading) (reading : Reading) → answer ≡ Some reading → Answered m es es' answer → calls' ≡ and_then calls (Sends (text m))
@@ -68,17 +68,17 @@ broke_unread m calls calls' es es' n n' answer reading is answered called count 
 -- the code's state stands for where the exchanges led the run
 pub record Stands (d : Driver) (script : Bound) (budget : ℕ) (es : List Exchange) (p : CodePending) : Type 0 where
   pub state : Pending
-  pub comes : ComesTo p script.commands state
+  pub comes : ComesTo d p script.commands state
   pub so_far : SoFar d (first_of d script budget) state es
 
 module _ (d : Driver) (script : Bound) (budget : ℕ) where
   abbrev waits_as : Message → Waiting → Pending
-  waits_as m w = Waits m (kernel_of w) (open_of w) Noted (drop (begun_of w) script.commands)
+  waits_as m w = Waits m (kernel_of w) (open_of w) (rest_of d w.behind.frames) (drop (begun_of w) script.commands)
 
   abbrev RunsTo : List Exchange → Pending → Type 0
   RunsTo es p = SoFar d (first_of d script budget) p es
 
-  pub first_stands : (es : List Exchange) (p : CodePending) → es ≡ [] → ComesTo p script.commands (split_commands d script.commands (first_kernel d script budget)) → Stands d script budget es p
+  pub first_stands : (es : List Exchange) (p : CodePending) → es ≡ [] → ComesTo d p script.commands (split_commands d script.commands (first_kernel d script budget)) → Stands d script budget es p
   first_stands es p none c = record { state = first_of d script budget; comes = c; so_far = begins_so d (first_of d script budget) es none }
 
   waits_so : (es : List Exchange) (m : Message) (w : Waiting) → Stands d script budget es (pending.Waits m w) → RunsTo es (waits_as m w)
@@ -96,9 +96,9 @@ module _ (d : Driver) (script : Bound) (budget : ℕ) where
     next_stands p is goes one turned s =
         let x : TurnedSo (turn.Next p) = subst TurnedSo goes turned in
         record {
-          state = next d (reading_of x.0) (kernel_of w) (open_of w) Noted (drop (begun_of w) script.commands);
+          state = next d (reading_of x.0) (kernel_of w) (open_of w) (rest_of d w.behind.frames) (drop (begun_of w) script.commands);
           comes = x.2;
-          so_far = goes_so d (first_of d script budget) m (kernel_of w) (open_of w) Noted (drop (begun_of w) script.commands) es es' x.0 _ (waits_at es now m w is s) one x.1 refl;
+          so_far = goes_so d (first_of d script budget) m (kernel_of w) (open_of w) (rest_of d w.behind.frames) (drop (begun_of w) script.commands) es es' x.0 _ (waits_at es now m w is s) one x.1 refl;
         }
 
     -- there was no answer
@@ -107,7 +107,7 @@ module _ (d : Driver) (script : Bound) (budget : ℕ) where
         let x : TurnedSo (turn.Unanswered number w') = subst TurnedSo goes turned in
         record {
           kernel = kernel_of w;
-          ended = subst (λ (n : ℕ). HasEnded d script budget es' (ends.FarFault n) (kernel_of w)) (sym x.1) (fails_so d script budget es es' m (kernel_of w) (kernel_of w) (open_of w) Noted (drop (begun_of w) script.commands) (waits_at es now m w is s) one x.0 refl);
+          ended = subst (λ (n : ℕ). HasEnded d script budget es' (ends.FarFault n) (kernel_of w)) (sym x.1) (fails_so d script budget es es' m (kernel_of w) (kernel_of w) (open_of w) (rest_of d w.behind.frames) (drop (begun_of w) script.commands) (waits_at es now m w is s) one x.0 refl);
           left = x.2;
         }
 
@@ -165,9 +165,9 @@ module _ (d : Driver) (script : Bound) (budget : ℕ) where
   pub placed_after : (watch : Watch) (es es' : List Exchange) (now : CodePending) (m : Message) (w : Waiting) (t : Turn) (old memory : Memory) → now ≡ pending.Waits m w → KeptFor watch now → IsHeld now old memory → Stands d script budget es now → Turned d script.commands m w es es' t
       → IsPlace d script budget (answers_of es') memory
   placed_after watch es es' now m w (turn.Next p) old memory is kept held s turned =
-      place_after d script budget m (kernel_of w) (open_of w) Noted (drop (begun_of w) script.commands) es es' turned.0 memory (waits_at es now m w is s) (held_there watch now m w old memory is kept held) turned.1
+      place_after d script budget m (kernel_of w) (open_of w) (rest_of d w.behind.frames) (drop (begun_of w) script.commands) es es' turned.0 memory (waits_at es now m w is s) (held_there watch now m w old memory is kept held) turned.1
   placed_after watch es es' now m w (turn.Unanswered number w') old memory is kept held s turned =
-      place_unanswered d script budget m (kernel_of w) (open_of w) Noted (drop (begun_of w) script.commands) es es' memory (waits_at es now m w is s) (held_there watch now m w old memory is kept held) turned.0
+      place_unanswered d script budget m (kernel_of w) (open_of w) (rest_of d w.behind.frames) (drop (begun_of w) script.commands) es es' memory (waits_at es now m w is s) (held_there watch now m w old memory is kept held) turned.0
 
   pub placed_over : (es : List Exchange) (now : CodePending) (end : End) (w : Driven) (old memory : Memory) → now ≡ pending.Over end w → IsHeld now old memory → IsPlace d script budget (answers_of es) old → IsPlace d script budget (answers_of es) memory
   placed_over es now end w old memory is held place =
@@ -182,7 +182,7 @@ module _ (d : Driver) (script : Bound) (budget : ℕ) where
   pub stopped_turning : (watch : Watch) (old calls calls' : List FarCall) (es es' : List Exchange) (now : CodePending) (m : Message) (w : Waiting) (before memory : Memory) (n n' : ℕ) → now ≡ pending.Waits m w → KeptFor watch now → IsHeld now before memory → Stands d script budget es now
       → calls ≡ old ++ sends (sent_of es) → n ≡ length es + length (answers_of es) → Broke m calls calls' es es' n n' → IsStopped d script budget old calls' es' memory n'
   stopped_turning watch old calls calls' es es' now m w before memory n n' is kept held s called count broke =
-      stops_in d script budget m (kernel_of w) (open_of w) Noted (drop (begun_of w) script.commands) old calls calls' es es' memory n n' (waits_at es now m w is s) called count (held_there watch now m w before memory is kept held) broke
+      stops_in d script budget m (kernel_of w) (open_of w) (rest_of d w.behind.frames) (drop (begun_of w) script.commands) old calls calls' es es' memory n n' (waits_at es now m w is s) called count (held_there watch now m w before memory is kept held) broke
 
   pub stopped_standing : (old calls : List FarCall) (es : List Exchange) (now : CodePending) (memory : Memory) (n : ℕ) → Stands d script budget es now → calls ≡ old ++ sends (sent_of es) → n ≡ length es + length (answers_of es)
       → IsPlace d script budget (answers_of es) memory → IsStopped d script budget old calls es memory n

@@ -1,6 +1,6 @@
 -- protocol
 -- What comes of a message that a run sends.
-use Rattle.std.specs.Prelude.{◌≡◌, ℕ, List, [], ◌∷◌, ◌++◌, drop, Option, Some, None}
+use Rattle.std.specs.Prelude.{◌≡◌, ℕ, List, [], ◌∷◌, ◌++◌, Option, Some, None}
 use Rattle.mdr_model.specs.declared.command.Command.{Command}
 use Rattle.mdr_model.specs.declared.message.Message.{Message}
 use Rattle.mdr_model.specs.KernelState.{Reading}
@@ -11,13 +11,13 @@ use Rattle.mdr_near.specs.declared.turn.Turn.{Turn}
 use Rattle.mdr_near.specs.declared.turn.Turn.TheVariants as turn
 use Rattle.mdr_outside.specs.declared.far.Exchange.{Exchange}
 use Rattle.mdr_outside.specs.Far.{exchange}
-use Rattle.mdr_split.specs.Kernel.{next}
-use Rattle.mdr_split.specs.State.{Noted}
+use Rattle.mdr_bound.specs.declared.bound.Bound.{Bound}
+use Rattle.mdr_split.specs.Kernel.{first_kernel, next, split_commands}
 use Rattle.mdr_turns.specs.declared.state.Pending.{Pending}
 use Rattle.mdr_turns.specs.declared.state.Pending.TheVariants as pending
 use Rattle.mdr_turns.specs.declared.state.Waiting.{Waiting}
-use Rattle.mdr_turns.specs.Coming.{ComesTo, IsLeft, KeptFor}
-use Rattle.mdr_turns.specs.States.{IsSeen, begun_of, kernel_of, open_of}
+use Rattle.mdr_turns.specs.Coming.{ComesTo, IsLeft, KeptFor, from_waiting}
+use Rattle.mdr_turns.specs.States.{IsSeen, kernel_of}
 use Rattle.mdr_watch.specs.declared.watch.Watch.{Watch}
 use Rattle.mdr_watched.specs.Driver.{Driver}
 
@@ -35,10 +35,18 @@ had (Some reading) = 2
 
 -- ---- a turn
 
+-- the run of a script began so, up to its first message
+abbrev pub BeginsSo : Driver → Bound → (budget : ℕ) → Pending → Type 0
+BeginsSo d script budget p = ComesTo d p script.commands (split_commands d script.commands (first_kernel d script budget))
+
+-- an answer led to this
+abbrev pub LeadsTo : Driver → (script : List Command) → Waiting → Reading → Pending → Type 0
+LeadsTo d script w reading p = ComesTo d p script (from_waiting d w script (next d reading))
+
 -- its answer leads to the next state; or there was none, and the run's world is as it was, but for the sets of an open upcall
 abbrev pub Turned : Driver → List Command → Message → Waiting → (old new : List Exchange) → Turn → Type 0
 Turned d script m w old new (turn.Next p) =
-    (bytes : List ℕ) × (new ≡ old ++ exchange (text m) (Some bytes) ∷ []) × ComesTo p script (next d (reading_of bytes) (kernel_of w) (open_of w) Noted (drop (begun_of w) script))
+    (bytes : List ℕ) × (new ≡ old ++ exchange (text m) (Some bytes) ∷ []) × LeadsTo d script w (reading_of bytes) p
 Turned d script m w old new (turn.Unanswered number w') =
     (new ≡ old ++ exchange (text m) None ∷ []) × (number ≡ (kernel_of w).exchanges) × IsLeft (kernel_of w).world w'.world
 

@@ -1,18 +1,16 @@
 // From one message of a run to its next.
 
-ghost use Rattle.std.specs.Prelude.{◌≡◌, ◌≤◌, ◌+◌, drop, IfOk, OnErr};
+ghost use Rattle.std.specs.Prelude.{◌≡◌, ◌≤◌, ◌+◌, IfOk, OnErr};
 ghost use Rattle.mdr_core.specs.Sound.{IsSound};
 ghost use Rattle.mdr_exchanges.specs.Calls.{Broke};
 ghost use Rattle.mdr_model.specs.Text.{text};
 ghost use Rattle.mdr_msg.specs.WellFormed.{IsMessage};
-ghost use Rattle.mdr_near.specs.Turns.{IsUnanswered, KeptBy, Turned, messages_of};
+ghost use Rattle.mdr_near.specs.Turns.{BeginsSo, IsUnanswered, KeptBy, LeadsTo, Turned, messages_of};
 ghost use Rattle.mdr_outside.specs.Calls.{Sends, and_then};
 ghost use Rattle.mdr_outside.specs.Count.{Rose};
 ghost use Rattle.mdr_outside.specs.Far.{IsLoaded};
-ghost use Rattle.mdr_split.specs.Kernel.{first_kernel, next, split_commands};
-ghost use Rattle.mdr_split.specs.State.{Noted};
-ghost use Rattle.mdr_turns.specs.Coming.{ComesTo, KeptFor};
-ghost use Rattle.mdr_turns.specs.States.{StandsFor, begun_of, kernel_of, open_of};
+ghost use Rattle.mdr_turns.specs.Coming.{KeptFor};
+ghost use Rattle.mdr_turns.specs.States.{StandsFor};
 ghost use Rattle.mdr_watch.specs.Watching.{IsFit, driver_in};
 
 use crate::send::send;
@@ -43,7 +41,7 @@ pub(crate) fn first<'a>(
     requires sound { IsSound watch.program.now }
     requires fit { IsFit watch }
     ensures kept { IfOk result (KeptFor watch.entry) }
-    ensures comes { IfOk result (λ p. ComesTo p script.now.commands (split_commands (driver_in watch.entry) script.now.commands (first_kernel (driver_in watch.entry) script.now ticks))) }
+    ensures comes { IfOk result (λ p. BeginsSo (driver_in watch.entry) script.now ticks p) }
 {
     let world = World::new(alloc, watch.program, script, ticks)?;
     let pending = begun(alloc, watch, script.commands.as_slice(), world)?;
@@ -62,7 +60,7 @@ fn later<'a>(
     requires fit { IsFit watch }
     requires stands { StandsFor watch waiting }
     ensures kept { IfOk result (KeptFor watch.entry) }
-    ensures comes { IfOk result (λ p. ComesTo p script.now.commands (next (driver_in watch.entry) reading (kernel_of waiting.entry) (open_of waiting.entry) Noted (drop (begun_of waiting.entry) script.now.commands))) }
+    ensures comes { IfOk result (λ p. LeadsTo (driver_in watch.entry) script.now.commands waiting.entry reading p) }
 {
     let pending = next(alloc, watch, script.commands.as_slice(), waiting, reading)?;
     Ok(pending)

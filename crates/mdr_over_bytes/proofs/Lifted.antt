@@ -127,5 +127,5 @@ module _ (d : Driver) where
       }
 
 pub split_over_bytes_is_one_memory : SplitOverBytesIsOneMemory
-split_over_bytes_is_one_memory program plan script budget sound nothing bodies is_plan is_script =
-    lifted (driver_of program plan) script budget (split_is_one_memory program plan script budget sound nothing bodies is_plan is_script)
+split_over_bytes_is_one_memory program plan script budget sound bodies is_plan is_script =
+    lifted (driver_of program plan) script budget (split_is_one_memory program plan script budget sound bodies is_plan is_script)

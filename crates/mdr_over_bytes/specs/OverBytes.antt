@@ -1,7 +1,6 @@
 -- believed
 -- The law over bytes: a split run whose messages and answers are bytes, with an honest far side, is the watched run on one memory.
 use Rattle.std.specs.Prelude.{◌≡◌, ℕ, List, [], ◌∷◌, ◌++◌, map}
-use Rattle.mdr_core.specs.Backs.{CallsNothingBack}
 use Rattle.mdr_core.specs.declared.plan.Plan.{Plan}
 use Rattle.mdr_core.specs.declared.program.Program.{Program}
 use Rattle.mdr_core.specs.Sound.{IsSound}
@@ -72,8 +71,8 @@ pub record IsOneMemoryOverBytes (d : Driver) (script : Bound) (budget : ℕ) : T
       → IsWatched d script budget end k
   pub ends : HasHonestRun d script budget
 
--- the law for every sound program that calls nothing back and in which each function has a body, with its plan, every script whose commands fit it and every budget
+-- the law for every sound program in which each function has a body, with its plan, every script whose commands fit it and every budget
 abbrev pub SplitOverBytesIsOneMemory : Type 0
 SplitOverBytesIsOneMemory =
-    (program : Program) (plan : Plan) (script : Bound) (budget : ℕ) → IsSound program → CallsNothingBack program → HaveBodies program → IsPlanOf program plan → IsScript program script
+    (program : Program) (plan : Plan) (script : Bound) (budget : ℕ) → IsSound program → HaveBodies program → IsPlanOf program plan → IsScript program script
     → IsOneMemoryOverBytes (driver_of program plan) script budget

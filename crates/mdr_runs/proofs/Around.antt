@@ -114,7 +114,7 @@ few_counted r (suc n) at w go h each = each (record w { clock = advanced 1 w.clo
 
 -- ---- cut trees
 
-child_cut : (r : ℕ) (t : Tree) (vs : List Wire) → child (cut r t) vs ≡ cut r (child t vs)
+pub child_cut : (r : ℕ) (t : Tree) (vs : List Wire) → child (cut r t) vs ≡ cut r (child t vs)
 unfolding cut
 child_cut r Tree.Idle vs = refl
 child_cut r (Tree.Waits k) vs = refl

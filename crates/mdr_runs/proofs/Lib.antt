@@ -9,3 +9,4 @@ pub mod Pausing
 pub mod Ends
 pub mod Tries
 pub mod Commands
+pub mod Upto

@@ -34,7 +34,7 @@ module _ (s : Setting) (before : Before) where
   counted_finishes (suc n) at w go go' each = each (record w { clock = advanced 1 w.clock })
 
   module _ (keeps : KeepsTicks s) (gives : GivesNoTicks before) where
-    goes_finishes : (t : Tree) (w : World) → run s before t w ≡ finishes s before (goes s.accesses s.serves before t w)
+    pub goes_finishes : (t : Tree) (w : World) → run s before t w ≡ finishes s before (goes s.accesses s.serves before t w)
     unfolding run goes
     goes_finishes Tree.Idle w = refl
     goes_finishes (Tree.Waits k) w = refl
@@ -56,7 +56,7 @@ same_gave_given : {A : Type 0} (x : Result A StopKind) (at : At) (w : World) (go
 same_gave_given (Ok x) at w go go' each = each x refl
 same_gave_given (Err kind) at w go go' each = refl
 
-same_gave_after : {A : Type 0} (r : ℕ) (x : Ran A) (go go' : A → World → Went) → (left x).clock.rest ≤ r → ((a : A) (w : World) → w.clock.rest ≤ r → go a w ≡ go' a w) → gave_after x go ≡ gave_after x go'
+pub same_gave_after : {A : Type 0} (r : ℕ) (x : Ran A) (go go' : A → World → Went) → (left x).clock.rest ≤ r → ((a : A) (w : World) → w.clock.rest ≤ r → go a w ≡ go' a w) → gave_after x go ≡ gave_after x go'
 same_gave_after r (Ended x w) go go' h each = each x w h
 same_gave_after r (Stopped kind at w) go go' h each = refl
 
@@ -65,7 +65,7 @@ same_gave_counted zero at w go go' e each = refl
 same_gave_counted (suc n) at w go go' e each = each n (record w { clock = advanced 1 w.clock }) refl (let h : w.clock.rest - 1 ≤ n = omega (arith, e) in h)
 
 module _ (s : Setting) (before : Before) (keeps : KeepsTicks s) (gives : GivesNoTicks before) where
-  goes_cut : (r : ℕ) (t : Tree) (w : World) → w.clock.rest ≤ r → goes s.accesses s.serves before (cut r t) w ≡ goes s.accesses s.serves before t w
+  pub goes_cut : (r : ℕ) (t : Tree) (w : World) → w.clock.rest ≤ r → goes s.accesses s.serves before (cut r t) w ≡ goes s.accesses s.serves before t w
   unfolding goes cut
   goes_cut r Tree.Idle w h = refl
   goes_cut r (Tree.Waits k) w h = refl

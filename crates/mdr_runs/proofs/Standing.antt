@@ -28,11 +28,11 @@ use Rattle.mdr_runs.proofs.Walked.{left_few, walk_at_most}
 
 module _ {M : Type 0} (a : Accesses M) where
   -- what a run says of the walk, and of the tick that is wanted
-  record Came (side : Side) (h : Held) (m : M) (ticks : ℕ) (e : Event) (h' : Held) (m' : M) (rest : ℕ) : Type 0 where
-    ran : RunsTo a side h m ticks (came_to e) h' m' rest
-    wants : Wants side h' e
+  pub record Came (side : Side) (h : Held) (m : M) (ticks : ℕ) (e : Event) (h' : Held) (m' : M) (rest : ℕ) : Type 0 where
+    pub ran : RunsTo a side h m ticks (came_to e) h' m' rest
+    pub wants : Wants side h' e
 
-  came : (side : Side) (h : Held) (m : M) (ticks : ℕ) (e : Event) (h' : Held) (m' : M) (rest : ℕ) → RanTo a side h m ticks e h' m' rest → Came side h m ticks e h' m' rest
+  pub came : (side : Side) (h : Held) (m : M) (ticks : ℕ) (e : Event) (h' : Held) (m' : M) (rest : ℕ) → RanTo a side h m ticks e h' m' rest → Came side h m ticks e h' m' rest
   came side h m ticks (event.Done v) h' m' rest r = record { ran = r; wants = tt }
   came side h m ticks (event.Cross c) h' m' rest r = record { ran = r; wants = tt }
   came side h m ticks (event.Service q) h' m' rest r = record { ran = r; wants = tt }
@@ -40,11 +40,11 @@ module _ {M : Type 0} (a : Accesses M) where
   came side h m ticks (event.TicksOut at) h' m' rest r = record { ran = r.1; wants = r.2 }
 
   -- the walk of a tree comes to an event without a tick
-  abbrev Comes : Side → (fuel : ℕ) → Tree → M → Event → Held → M → (rest r : ℕ) → Type 0
+  abbrev pub Comes : Side → (fuel : ℕ) → Tree → M → Event → Held → M → (rest r : ℕ) → Type 0
   Comes side f t m e h' m' rest r = walk a 0 t m ≡ came_after a side f (came_to e) h' m' rest r
 
   -- its memory is the one that is left
-  memory_is : (side : Side) (f : ℕ) (t : Tree) (m : M) (e : Event) (h' : Held) (m' : M) (r : ℕ) → Wants side h' e → Comes side f t m e h' m' 0 r → (walk a 0 t m).memory ≡ m'
+  pub memory_is : (side : Side) (f : ℕ) (t : Tree) (m : M) (e : Event) (h' : Held) (m' : M) (r : ℕ) → Wants side h' e → Comes side f t m e h' m' 0 r → (walk a 0 t m).memory ≡ m'
   unfolding walk
   memory_is side f t m (event.Done v) h' m' r w is = ap (λ (x : Walked M). x.memory) is
   memory_is side f t m (event.Cross c) h' m' r w is = ap (λ (x : Walked M). x.memory) is
@@ -70,7 +70,7 @@ module _ {M : Type 0} (a : Accesses M) where
   none_left side f t m (event.TicksOut at) h h' m0 m' ticks rest r ran is = ran.0
 
   -- a run without ticks, from the tree with all its fuel
-  from_none : (side : Side) (h : Held) (m : M) (e : Event) (h' : Held) (m' : M) (rest f : ℕ) → RunsTo a side h m 0 (came_to e) h' m' rest → Comes side f (tree side f h f) m e h' m' 0 f
+  pub from_none : (side : Side) (h : Held) (m : M) (e : Event) (h' : Held) (m' : M) (rest f : ℕ) → RunsTo a side h m 0 (came_to e) h' m' rest → Comes side f (tree side f h f) m e h' m' 0 f
   from_none side h m e h' m' rest f ran =
       let few : rest ≤ 0 = ran.fewer in
       let zero_left : rest + 0 ≡ 0 = omega (arith, few) in
@@ -89,7 +89,7 @@ module _ {M : Type 0} (a : Accesses M) where
   unfolding walk
   first_tick at d t m = refl
 
-  from_one : (side : Side) (h : Held) (m : M) (e : Event) (h' : Held) (m' : M) (rest r : ℕ) (at : At) (d : ℕ) (t : Tree)
+  pub from_one : (side : Side) (h : Held) (m : M) (e : Event) (h' : Held) (m' : M) (rest r : ℕ) (at : At) (d : ℕ) (t : Tree)
       → RanTo a side h m 1 e h' m' rest → tree side (suc r) h (suc r) ≡ Tree.Tick at d t → Comes side (suc r) t m e h' m' 0 r
   from_one side h m e h' m' rest r at d t ran is =
       let c : Came side h m 1 e h' m' rest = came side h m 1 e h' m' rest ran in

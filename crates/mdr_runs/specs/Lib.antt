@@ -5,3 +5,4 @@ pub mod Seen
 pub mod Following
 pub mod Scripts
 pub mod Laws
+pub mod Upto

@@ -36,7 +36,7 @@ use Rattle.mdr_watched.specs.Driver.{Driver, touched_by}
 use Rattle.mdr_watched.specs.Views.{may_touch, top}
 
 -- what both sides share of accesses
-pub shared : {d : Driver} {uses : Uses} {budget t : ℕ} {KU : Knowledge} {live : List Wire} {k : Kernel} {w : World} {um : Memory} → Rel d uses budget t KU live k w um
+pub shared : {d : Driver} {uses : Uses} {budget t : ℕ} {K KU : Knowledge} {live : List Wire} {k : Kernel} {w : World} {um : Memory} → Rel d uses budget t K KU live k w um
     → AccessesAgree d.program (known_by KU) (next_serial w) k.agreed k.world.memory w um
 shared {d = d} {KU = KU} {k = k} {w = w} {um = um} r = accesses_agree d.program (known_by KU) (next_serial w) k.agreed k.world.memory w um r.memories
 
@@ -51,18 +51,17 @@ pub same_clock : {c e : Clock} → c.ticks ≡ e.ticks → c.rest ≡ e.rest →
 same_clock p q s = λ i. record { ticks = p i; rest = q i; device = s i }
 
 -- a tick of user code
-pub ticks : (d : Driver) (uses : Uses) (budget t : ℕ) (KU : Knowledge) (live : List Wire) (k : Kernel) (w : World) (um : Memory) (q : ℕ) → Rel d uses budget t KU live k w um → w.clock.rest ≡ suc q
-    → Rel d uses budget t KU live k (record w { clock = advanced 1 w.clock }) um
+pub ticks : {K : Knowledge} (d : Driver) (uses : Uses) (budget t : ℕ) (KU : Knowledge) (live : List Wire) (k : Kernel) (w : World) (um : Memory) (q : ℕ) → Rel d uses budget t K KU live k w um → w.clock.rest ≡ suc q
+    → Rel d uses budget t K KU live k (record w { clock = advanced 1 w.clock }) um
 ticks d uses budget t KU live k w um q r e = record {
   sound = r.sound;
-  K = r.K;
   grows = r.grows;
   uses_are = r.uses_are;
   globals = r.globals;
   holds = record { memory = r.holds.memory; births = r.holds.births; low = r.holds.low; views = r.holds.views; device = device_ticked w.clock.device r.holds.device; handler = r.holds.handler };
   memories = r.memories;
   set = r.set;
-  objects = r.objects;
+  objects_are = r.objects_are;
   same_lives = r.same_lives;
   same_views = r.same_views;
   same_kept = r.same_kept;
@@ -143,16 +142,16 @@ cell_stop (Some v) kind e = value_stop v kind e
 
 -- ---- loads
 
-pub load_same : (d : Driver) (uses : Uses) (budget t : ℕ) (KU : Knowledge) (live : List Wire) (k : Kernel) (w : World) (um : Memory) (ty : Ty) (p : Wire) → Rel d uses budget t KU live k w um → PointsTo d.program KU ty p
+pub load_same : {K : Knowledge} (d : Driver) (uses : Uses) (budget t : ℕ) (KU : Knowledge) (live : List Wire) (k : Kernel) (w : World) (um : Memory) (ty : Ty) (p : Wire) → Rel d uses budget t K KU live k w um → PointsTo d.program KU ty p
     → loaded (is_in (top w.views)) um p ≡ loaded (may_touch w) w.memory p
 load_same d uses budget t KU live k w um ty p r points = sym ((shared r).loads p (pointer_known d.program KU _ p points))
 
-pub load_fits : (d : Driver) (uses : Uses) (budget t : ℕ) (KU : Knowledge) (live : List Wire) (k : Kernel) (w : World) (um : Memory) (ty : Ty) (p v : Wire) → Rel d uses budget t KU live k w um → PointsTo d.program KU ty p → LoadsScalar ty p
+pub load_fits : {K : Knowledge} (d : Driver) (uses : Uses) (budget t : ℕ) (KU : Knowledge) (live : List Wire) (k : Kernel) (w : World) (um : Memory) (ty : Ty) (p v : Wire) → Rel d uses budget t K KU live k w um → PointsTo d.program KU ty p → LoadsScalar ty p
     → loaded (may_touch w) w.memory p ≡ Ok v → Fits d.program KU ty v
-load_fits d uses budget t KU live k w um ty p v r points scalar e =
-    fits_narrows d.program KU r.K r.grows ty v
+load_fits {K = K} d uses budget t KU live k w um ty p v r points scalar e =
+    fits_narrows d.program KU K r.grows ty v
     (λ q is. known_some KU q (subst (λ (x : Wire). IsKnown (known_by KU) x) is ((shared r).loaded_known p v (pointer_known d.program KU _ p points) e)))
-    (loaded_fits d.program r.sound r.K w r.holds (may_touch w) ty p v (pointer_grows d.program KU r.K r.grows _ p points) scalar e)
+    (loaded_fits d.program r.sound K w r.holds (may_touch w) ty p v (pointer_grows d.program KU K r.grows _ p points) scalar e)
 
 pub load_stop : (allowed : Cell → Bool) (m : Memory) (p : Wire) (kind : StopKind) → loaded allowed m p ≡ Err kind → IsUserStop kind
 unfolding loaded
@@ -165,9 +164,9 @@ load_stop allowed m p kind e = of (reached allowed m p) refl e
 -- ---- stores
 
 -- a store stops on both sides, or goes on both and keeps the relation
-pub data Stores (d : Driver) (uses : Uses) (budget t : ℕ) (KU : Knowledge) (live : List Wire) (k : Kernel) (w : World) (um : Memory) (p v : Wire) : Type 0 where
-  goes : (m m' : Memory) → stored (is_in (top w.views)) um p v ≡ Ok m' → stored (may_touch w) w.memory p v ≡ Ok m → Rel d uses budget t KU live k (record w { memory = m }) m' → Stores d uses budget t KU live k w um p v
-  stops : (kind : StopKind) → stored (is_in (top w.views)) um p v ≡ Err kind → stored (may_touch w) w.memory p v ≡ Err kind → IsUserStop kind → Stores d uses budget t KU live k w um p v
+pub data Stores (d : Driver) (uses : Uses) (budget t : ℕ) (K KU : Knowledge) (live : List Wire) (k : Kernel) (w : World) (um : Memory) (p v : Wire) : Type 0 where
+  goes : (m m' : Memory) → stored (is_in (top w.views)) um p v ≡ Ok m' → stored (may_touch w) w.memory p v ≡ Ok m → Rel d uses budget t K KU live k (record w { memory = m }) m' → Stores d uses budget t K KU live k w um p v
+  stops : (kind : StopKind) → stored (is_in (top w.views)) um p v ≡ Err kind → stored (may_touch w) w.memory p v ≡ Err kind → IsUserStop kind → Stores d uses budget t K KU live k w um p v
 
 pub is_born : (m : Memory) (serial : ℕ) (b : New) → born_at m serial ≡ Some b → is_live m serial ≡ true
 unfolding is_live
@@ -189,27 +188,26 @@ stored_is allowed m p v m' Of each e = of (reached allowed m p) e
     of (Ok c) l = let same : put m c (normal m v) ≡ m' = cc in subst Of same (each c (normal m v))
     of (Err s) l = absurd cc
 
-pub store : (d : Driver) (uses : Uses) (budget t : ℕ) (KU : Knowledge) (live : List Wire) (k : Kernel) (w : World) (um : Memory) (ty : Ty) (p v : Wire) → Rel d uses budget t KU live k w um → PointsTo d.program KU ty p → Fits d.program KU ty v
-    → Stores d uses budget t KU live k w um p v
-store d uses budget t KU live k w um ty p v r points fits = of ((shared r).stores p v (pointer_known d.program KU _ p points) (value_known d.program KU ty v fits))
+pub store : {K : Knowledge} (d : Driver) (uses : Uses) (budget t : ℕ) (KU : Knowledge) (live : List Wire) (k : Kernel) (w : World) (um : Memory) (ty : Ty) (p v : Wire) → Rel d uses budget t K KU live k w um → PointsTo d.program KU ty p → Fits d.program KU ty v
+    → Stores d uses budget t K KU live k w um p v
+store {K = K} d uses budget t KU live k w um ty p v r points fits = of ((shared r).stores p v (pointer_known d.program KU _ p points) (value_known d.program KU ty v fits))
   where
-    kept : (m : Memory) → stored (may_touch w) w.memory p v ≡ Ok m → Later d.program (next_serial w) r.K w r.K (record w { memory = m })
-    kept m e = stored_later d.program r.sound r.K w r.holds (may_touch w) (next_serial w) ty p v m (pointer_grows d.program KU r.K r.grows _ p points) (fits_grows d.program KU r.K r.grows ty v fits) e
+    kept : (m : Memory) → stored (may_touch w) w.memory p v ≡ Ok m → Later d.program (next_serial w) K w K (record w { memory = m })
+    kept m e = stored_later d.program r.sound K w r.holds (may_touch w) (next_serial w) ty p v m (pointer_grows d.program KU K r.grows _ p points) (fits_grows d.program KU K r.grows ty v fits) e
 
     below : (serial : ℕ) (b : New) → born_at w.memory serial ≡ Some b → serial < next_serial w
     below serial b e = r.holds.low serial (is_born w.memory serial b e)
 
-    rel : (m m' : Memory) → stored (may_touch w) w.memory p v ≡ Ok m → IsShared d.program (known_by KU) (next_serial w) (top w.views) k.agreed k.world.memory m m' → Rel d uses budget t KU live k (record w { memory = m }) m'
+    rel : (m m' : Memory) → stored (may_touch w) w.memory p v ≡ Ok m → IsShared d.program (known_by KU) (next_serial w) (top w.views) k.agreed k.world.memory m m' → Rel d uses budget t K KU live k (record w { memory = m }) m'
     rel m m' e s = record {
       sound = r.sound;
-      K = r.K;
       grows = r.grows;
       uses_are = r.uses_are;
       globals = r.globals;
       holds = (kept m e).holds;
       memories = s;
       set = stored_is (may_touch w) w.memory p v m (λ (x : Memory). IsSetOf d.program (touched_by d.plan t) x (top w.views)) (λ c x. set_stored d.program (touched_by d.plan t) w.memory (top w.views) c x r.set) e;
-      objects = objects_stay w.memory m (λ serial b born heap. (kept m e).stays serial b (below serial b born) born heap) 0 live r.objects;
+      objects_are = objects_stay w.memory m (λ serial b born heap. (kept m e).stays serial b (below serial b born) born heap) 0 live r.objects_are;
       same_lives = r.same_lives;
       same_views = r.same_views;
       same_kept = r.same_kept;
@@ -217,13 +215,13 @@ store d uses budget t KU live k w um ty p v r points fits = of ((shared r).store
       total = r.total;
     }
 
-    of : StoresAlike d.program (known_by KU) (next_serial w) (top w.views) k.agreed k.world.memory (stored (may_touch w) w.memory p v) (stored (is_in (top w.views)) um p v) → Stores d uses budget t KU live k w um p v
+    of : StoresAlike d.program (known_by KU) (next_serial w) (top w.views) k.agreed k.world.memory (stored (may_touch w) w.memory p v) (stored (is_in (top w.views)) um p v) → Stores d uses budget t K KU live k w um p v
     of (Stops kind whole user) = stops kind user whole (store_stop (may_touch w) w.memory p v kind whole)
     of (Goes m m' whole user s) = goes m m' user whole (rel m m' whole s)
 
 -- ---- reads of many bytes
 
-pub read_same : (d : Driver) (uses : Uses) (budget t : ℕ) (KU : Knowledge) (live : List Wire) (k : Kernel) (w : World) (um : Memory) (ty : Ty) (p : Wire) (n : ℕ) → Rel d uses budget t KU live k w um → PointsTo d.program KU ty p
+pub read_same : {K : Knowledge} (d : Driver) (uses : Uses) (budget t : ℕ) (KU : Knowledge) (live : List Wire) (k : Kernel) (w : World) (um : Memory) (ty : Ty) (p : Wire) (n : ℕ) → Rel d uses budget t K KU live k w um → PointsTo d.program KU ty p
     → read (is_in (top w.views)) um p n ≡ read (may_touch w) w.memory p n
 read_same d uses budget t KU live k w um ty p n r points = sym ((shared r).reads p n (pointer_known d.program KU _ p points))
 
@@ -248,7 +246,7 @@ read_stop allowed m wire.NoValue n kind e = stop_is stop.Null kind e null_stop
 
 -- ---- values of locals
 
-pub fresh_same : (d : Driver) (uses : Uses) (budget t : ℕ) (KU : Knowledge) (live : List Wire) (k : Kernel) (w : World) (um : Memory) (v : Wire) → Rel d uses budget t KU live k w um → IsAddress d.program KU v
+pub fresh_same : {K : Knowledge} (d : Driver) (uses : Uses) (budget t : ℕ) (KU : Knowledge) (live : List Wire) (k : Kernel) (w : World) (um : Memory) (v : Wire) → Rel d uses budget t K KU live k w um → IsAddress d.program KU v
     → fresh um v ≡ fresh w.memory v
 fresh_same d uses budget t KU live k w um v r address = sym ((shared r).freshens v (pointer_known d.program KU _ v address))
 
@@ -261,6 +259,6 @@ unfolding fresh
 fresh_stop m v kind e = value_stop (normal m v) kind e
 
 -- a result is passed alike
-pub result_same : (d : Driver) (uses : Uses) (budget t : ℕ) (KU : Knowledge) (live : List Wire) (k : Kernel) (w : World) (um : Memory) (ty : Ty) (v : Wire) → Rel d uses budget t KU live k w um → IsResult d.program KU ty v
+pub result_same : {K : Knowledge} (d : Driver) (uses : Uses) (budget t : ℕ) (KU : Knowledge) (live : List Wire) (k : Kernel) (w : World) (um : Memory) (ty : Ty) (v : Wire) → Rel d uses budget t K KU live k w um → IsResult d.program KU ty v
     → normal um v ≡ normal w.memory v
 result_same d uses budget t KU live k w um ty v r fits = sym ((shared r).normals v (result_known d.program KU ty v fits))

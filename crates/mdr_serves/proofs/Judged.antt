@@ -71,11 +71,11 @@ asked_known d KU a Bug h = all_known d.program KU a.args _ h.fit
 asked_known d KU a Enter h = subst (AreKnown d.program KU) (sym h.no_args) tt
 asked_known d KU a Leave h = h.known
 
-pub args_alike : {d : Driver} {uses : Uses} {budget t : ℕ} {KU : Knowledge} {live : List Wire} {k : Kernel} {w : World} {um : Memory} (args : List Wire) (types : List Ty) → Rel d uses budget t KU live k w um → AllFit d.program KU args types
+pub args_alike : {d : Driver} {uses : Uses} {budget t : ℕ} {K KU : Knowledge} {live : List Wire} {k : Kernel} {w : World} {um : Memory} (args : List Wire) (types : List Ty) → Rel d uses budget t K KU live k w um → AllFit d.program KU args types
     → map (normal um) args ≡ map (normal w.memory) args
 args_alike {d = d} {KU = KU} {w = w} {um = um} args types r fit = known_alike d KU um w.memory (λ v known. sym ((shared r).normals v known)) args (all_known d.program KU args types fit)
 
-pub asked_alike : {d : Driver} {uses : Uses} {budget t : ℕ} {KU : Knowledge} {live : List Wire} {k : Kernel} {w : World} {um : Memory} (a : Asked) (s : Service) → Rel d uses budget t KU live k w um → IsAsk d.program KU a s
+pub asked_alike : {d : Driver} {uses : Uses} {budget t : ℕ} {K KU : Knowledge} {live : List Wire} {k : Kernel} {w : World} {um : Memory} (a : Asked) (s : Service) → Rel d uses budget t K KU live k w um → IsAsk d.program KU a s
     → map (normal um) a.args ≡ map (normal w.memory) a.args
 asked_alike {d = d} {KU = KU} {w = w} {um = um} a s r ask = known_alike d KU um w.memory (λ v known. sym ((shared r).normals v known)) a.args (asked_known d KU a s ask)
 
@@ -85,7 +85,7 @@ same_life : (m m' : Memory) (serial : ℕ) → born_at m serial ≡ born_at m' s
 unfolding is_live
 same_life m m' serial e = ap (λ (o : Option New). is_some o) e
 
-module _ (d : Driver) (uses : Uses) (budget t : ℕ) (KU : Knowledge) (live : List Wire) (k : Kernel) (w : World) (um : Memory) (right : IsRight d uses) (r : Rel d uses budget t KU live k w um) where
+module _ {K : Knowledge} (d : Driver) (uses : Uses) (budget t : ℕ) (KU : Knowledge) (live : List Wire) (k : Kernel) (w : World) (um : Memory) (right : IsRight d uses) (r : Rel d uses budget t K KU live k w um) where
   paired_where : (serial : ℕ) (shape : Shape) → KU.blocks serial ≡ Some shape → is_live k.agreed serial ≡ true → IsPaired (kernel_places d k) serial shape
   paired_where serial shape known copied =
       let b = born_live k.world.memory serial (r.memories.live serial copied) in
@@ -109,16 +109,16 @@ module _ (d : Driver) (uses : Uses) (budget t : ℕ) (KU : Knowledge) (live : Li
   -- ---- what changed
 
   typed : GlobalsAreTyped d.program w.memory
-  typed serial b g born names = states_hold.typed d.program r.sound r.K w r.holds serial b g born names
+  typed serial b g born names = states_hold.typed d.program r.sound K w r.holds serial b g born names
 
   -- a visible cell's value fits by what the user half knows
-  pub shown_fits : (c : Cell) → is_in (top w.views) c ≡ true → (x : IsShownCell d.program r.K w.memory c) → Fits d.program KU x.leaf.type x.value
+  pub shown_fits : (c : Cell) → is_in (top w.views) c ≡ true → (x : IsShownCell d.program K w.memory c) → Fits d.program KU x.leaf.type x.value
   shown_fits c inside x =
-      fits_narrows d.program KU r.K r.grows x.leaf.type x.value
+      fits_narrows d.program KU K r.grows x.leaf.type x.value
       (λ q is. known_some KU q (subst (λ (v : Wire). IsKnown (known_by KU) v) is ((shared r).held_known c x.value inside x.held))) x.fits
 
-  pub shown : (c : Cell) → is_in (top w.views) c ≡ true → IsShownCell d.program r.K w.memory c
-  shown c inside = shown_cell d.program d.plan t r.K w.memory (top w.views) right.suited typed r.holds.memory r.set c inside
+  pub shown : (c : Cell) → is_in (top w.views) c ≡ true → IsShownCell d.program K w.memory c
+  shown c inside = shown_cell d.program d.plan t K w.memory (top w.views) right.suited typed r.holds.memory r.set c inside
 
   held_is : (c : Cell) (v : Wire) → cell_at um c ≡ Some v → held um c ≡ v
   unfolding held
@@ -128,7 +128,7 @@ module _ (d : Driver) (uses : Uses) (budget t : ℕ) (KU : Knowledge) (live : Li
   pub changed_tellable : (c : Cell) → is_in (changed_cells (top w.views) k.agreed um) c ≡ true → IsTellable (kernel_places d k) (top w.views) um c
   changed_tellable c changed =
       let inside : is_in (top w.views) c ≡ true = (tellable r.memories).inside c changed in
-      let x : IsShownCell d.program r.K w.memory c = shown c inside in
+      let x : IsShownCell d.program K w.memory c = shown c inside in
       let value : held um c ≡ x.value = held_is c x.value (get c r.memories inside ∙ x.held) in
       let fit : fits (kernel_places d k) x.leaf.type (held um c) ≡ true = cell_fits judges r.memories.user x.leaf.type c (subst (λ (v : Wire). Fits d.program KU x.leaf.type v) (sym value) (shown_fits c inside x)) in
       record {

@@ -17,18 +17,17 @@ use Rattle.mdr_watched.specs.Order.{AllAreLive}
 use Rattle.mdr_watched.specs.Views.{below, closed}
 use Rattle.mdr_watched.specs.Watched.{kernel_of, may_not}
 
-grows_on : (A B C : Knowledge) → Grows A B → Grows B C → Grows A C
+pub grows_on : (A B C : Knowledge) → Grows A B → Grows B C → Grows A C
 grows_on A B C g h = record { stays = λ serial shape e. h.stays serial shape (g.stays serial shape e); same = h.same ∙ g.same }
 
 -- all that was born uses functions as the driver does
-pub uses_all : {d : Driver} {uses : Uses} {budget : ℕ} {KU : Knowledge} {copy : Memory} {w : World} (a : Agree d uses budget KU copy w) → a.K.uses ≡ uses
+pub uses_all : {d : Driver} {uses : Uses} {budget : ℕ} {K KU : Knowledge} {copy : Memory} {w : World} → Agree d uses budget K KU copy w → K.uses ≡ uses
 uses_all a = a.grows.same ∙ a.uses_are
 
 -- work of the kernel half was done
-pub agree_later : (d : Driver) (uses : Uses) (budget : ℕ) (KU : Knowledge) (copy : Memory) (w w' : World) (from : ℕ) (K' : Knowledge) (a : Agree d uses budget KU copy w) → Later d.program from a.K w K' w' → Agree d uses budget KU copy w'
-agree_later d uses budget KU copy w w' from K' a l = record {
-  K = K';
-  grows = grows_on KU a.K K' a.grows l.grows;
+pub agree_later : (d : Driver) (uses : Uses) (budget : ℕ) (K KU : Knowledge) (copy : Memory) (w w' : World) (from : ℕ) (K' : Knowledge) → Agree d uses budget K KU copy w → Later d.program from K w K' w' → Agree d uses budget K' KU copy w'
+agree_later d uses budget K KU copy w w' from K' a l = record {
+  grows = grows_on KU K K' a.grows l.grows;
   uses_are = a.uses_are;
   globals = a.globals;
   holds = l.holds;
@@ -37,9 +36,8 @@ agree_later d uses budget KU copy w w' from K' a l = record {
 }
 
 -- an event is noted, and what else services and commands alone change
-unfoldable pub agree_noted : (d : Driver) (uses : Uses) (budget : ℕ) (KU : Knowledge) (copy : Memory) (event : Happened) (w : World) → Agree d uses budget KU copy w → Agree d uses budget KU copy (noted event w)
-agree_noted d uses budget KU copy event w a = record {
-  K = a.K;
+unfoldable pub agree_noted : (d : Driver) (uses : Uses) (budget : ℕ) (K KU : Knowledge) (copy : Memory) (event : Happened) (w : World) → Agree d uses budget K KU copy w → Agree d uses budget K KU copy (noted event w)
+agree_noted d uses budget K KU copy event w a = record {
   grows = a.grows;
   uses_are = a.uses_are;
   globals = a.globals;
@@ -48,9 +46,8 @@ agree_noted d uses budget KU copy event w a = record {
   total = a.total;
 }
 
-unfoldable pub agree_counted : (d : Driver) (uses : Uses) (budget : ℕ) (KU : Knowledge) (copy : Memory) (calls : ℕ) (w : World) → Agree d uses budget KU copy w → Agree d uses budget KU copy (record w { kept = record w.kept { calls = calls } })
-agree_counted d uses budget KU copy calls w a = record {
-  K = a.K;
+unfoldable pub agree_counted : (d : Driver) (uses : Uses) (budget : ℕ) (K KU : Knowledge) (copy : Memory) (calls : ℕ) (w : World) → Agree d uses budget K KU copy w → Agree d uses budget K KU copy (record w { kept = record w.kept { calls = calls } })
+agree_counted d uses budget K KU copy calls w a = record {
   grows = a.grows;
   uses_are = a.uses_are;
   globals = a.globals;
@@ -64,9 +61,8 @@ below_live m [] live = live
 below_live m (set ∷ sets) live = live.1
 
 -- an upcall is over
-pub agree_closed : (d : Driver) (uses : Uses) (budget : ℕ) (KU : Knowledge) (copy : Memory) (w : World) → Agree d uses budget KU copy w → Agree d uses budget KU copy (closed w)
-agree_closed d uses budget KU copy w a = record {
-  K = a.K;
+pub agree_closed : (d : Driver) (uses : Uses) (budget : ℕ) (K KU : Knowledge) (copy : Memory) (w : World) → Agree d uses budget K KU copy w → Agree d uses budget K KU copy (closed w)
+agree_closed d uses budget K KU copy w a = record {
   grows = a.grows;
   uses_are = a.uses_are;
   globals = a.globals;

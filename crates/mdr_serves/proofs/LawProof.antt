@@ -4,8 +4,8 @@ use Rattle.std.specs.Prelude.{is_some}
 use Rattle.mdr_callees.specs.Callees.{uses_by}
 use Rattle.mdr_core.specs.declared.program.Program.{Program}
 use Rattle.mdr_core.specs.declared.types.Shape.{Shape}
+use Rattle.mdr_core.specs.Backs.{CallsNothingBack}
 use Rattle.mdr_callees.proofs.BackLaws.{one_graph_without}
-use Rattle.mdr_holds.proofs.Backs.{calls_back_are_none}
 use Rattle.mdr_holds.proofs.Drivers.{programs_are_drivers}
 use Rattle.mdr_holds.proofs.Scripts.{commands_leave}
 use Rattle.mdr_holds.proofs.States.{states_hold}
@@ -37,9 +37,9 @@ use Rattle.mdr_split.specs.User.{Delivered, User, deliver, first_user, user_afte
 use Rattle.mdr_watched.specs.Driver.{Driver, driver_of}
 use Rattle.mdr_watched.specs.Watched.{does, held, watched_of}
 use Rattle.mdr_serves.proofs.Commands.{finishes}
-use Rattle.mdr_serves.proofs.Relations.{Agree, IsRight, known_by, grows_same}
+use Rattle.mdr_serves.proofs.Relations.{Agree, IsPaid, IsRight, known_by, grows_same}
 use Rattle.mdr_serves.proofs.Right.{CallGraph, body_there, call_graph, is_right}
-use Rattle.mdr_serves.proofs.Serves.{AreGranted, Finishes, idle_user, meet}
+use Rattle.mdr_serves.proofs.Runs.{AreGranted, Finishes, idle_user, meet}
 
 -- ---- messages in turn
 
@@ -171,14 +171,13 @@ told_all program K w h = record {
     told serial None e known = let none : is_some (K.blocks serial) ≡ false = ap (λ (o : Option Shape). is_some o) e in absurd (Prim.cc)
 
 -- the state in which the kernel half begins, and what the user half has then
-first_agrees : (d : Driver) (uses : Uses) (script : Bound) (budget : ℕ) → IsRight d uses → IsScript d.program script → Agree d uses budget (first_knowledge d.program uses) (first_kernel d script budget).agreed (first_kernel d script budget).world
+first_agrees : (d : Driver) (uses : Uses) (script : Bound) (budget : ℕ) → IsRight d uses → IsScript d.program script → Agree d uses budget (first_knowledge d.program uses) (first_knowledge d.program uses) (first_kernel d script budget).agreed (first_kernel d script budget).world
 unfolding first_kernel first_world
 first_agrees d uses script budget right good =
     let K : Knowledge = first_knowledge d.program uses in
     let w : World = first_world d.kernel.known script budget in
     let holds : Holds d.program K w =
     subst (λ (known : Numbered). Holds d.program K (first_world known script budget)) (sym right.driver.kernel.bodies.known) (commands_leave.first d.program right.driver.sound uses right.first script good budget) in record {
-      K = K;
       grows = grows_same K;
       uses_are = refl;
       globals = states_hold.globals d.program K w holds;
@@ -193,7 +192,7 @@ first_copy d uses script budget right = ap (λ (known : Numbered). idle_user (fi
 
 -- ---- the law
 
-module _ (d : Driver) (uses : Uses) (right : IsRight d uses) (itself : CallsItself uses d.kernel) (halves : HaveHalves d) (script : Bound) (budget : ℕ) (good : IsScript d.program script) where
+module _ (d : Driver) (uses : Uses) (right : IsRight d uses) (itself : CallsNothingBack d.program → CallsItself uses d.kernel) (halves : HaveHalves d) (script : Bound) (budget : ℕ) (good : IsScript d.program script) where
   abbrev k0 : Kernel
   k0 = first_kernel d script budget
 
@@ -201,26 +200,27 @@ module _ (d : Driver) (uses : Uses) (right : IsRight d uses) (itself : CallsItse
   p0 = split_commands d script.commands k0
 
   -- with fuel for more than the budget the exchanges come to the watched run's end
-  ends_at : (fuel : ℕ) → budget < fuel → Finishes d fuel budget 0 p0 (idle_user k0.agreed) (watched_of d script budget)
-  unfolding first_kernel first_world first_memory split_commands
+  ends_at : (fuel : ℕ) → budget < fuel → Finishes d uses fuel budget 0 p0 (idle_user k0.agreed) (watched_of d script budget)
+  unfolding first_kernel first_world first_memory watched_of
   ends_at fuel less =
-      subst (λ (f : Finish). Finishes d fuel budget 0 p0 (idle_user k0.agreed) f) (sym (calls_back_are_none.watched d uses right.driver itself halves right.first script good budget))
-      (finishes d uses right fuel budget less script.commands good.commands (first_knowledge d.program uses) k0 (first_agrees d uses script budget right good) (omega arith))
+      finishes d uses right halves fuel budget less script.commands good.commands (first_knowledge d.program uses) (first_knowledge d.program uses) k0 (first_agrees d uses script budget right good) (record { six = omega arith; four = λ nothing. omega arith })
 
   own : IsOwn (watched_of d script budget).end
   unfolding watched_of
   own = own_end (does d (held d)) script.commands (first_world d.kernel.known script budget)
 
-  is_watched : (fuel : ℕ) (f : Finishes d fuel budget 0 p0 (idle_user k0.agreed) (watched_of d script budget)) (end : End) (k : Kernel) → Over end k ≡ Over (watched_of d script budget).end f.kernel → IsWatched d script budget end k
+  is_watched : (fuel : ℕ) (f : Finishes d uses fuel budget 0 p0 (idle_user k0.agreed) (watched_of d script budget)) (end : End) (k : Kernel) → Over end k ≡ Over (watched_of d script budget).end f.kernel → IsWatched d script budget end k
   is_watched fuel f end k one =
       let same_end : end ≡ (watched_of d script budget).end = Prim.cc in
       let same_kernel : k ≡ f.kernel = Prim.cc in
       let same_world : k.world ≡ (watched_of d script budget).world = ap (λ (x : Kernel). x.world) same_kernel ∙ f.world in
+      let paid : IsPaid d uses (2 * k.exchanges) k.world = subst (λ (x : Kernel). IsPaid d uses (2 * x.exchanges) x.world) (sym same_kernel) f.bound in
       record {
         world = same_world;
         outcome = ap (outcome_of d.program) (λ i. record { end = same_end i; world = same_world i });
         own = subst (λ (e : End). IsOwn e) (sym same_end) own;
-        messages = subst (λ (x : Kernel). 2 * x.exchanges ≤ 4 * x.world.clock.ticks + 6 * x.world.kept.calls) (sym same_kernel) f.bound;
+        messages = omega (arith, paid.six);
+        fewer = λ nothing. paid.four (itself nothing);
       }
 
   pub one_memory : IsOneMemory d script budget
@@ -233,33 +233,33 @@ module _ (d : Driver) (uses : Uses) (right : IsRight d uses) (itself : CallsItse
       same : (answers : List Message) (end : End) (k : Kernel) → IsHonest d [] (split_run d script budget (read answers)).sent answers → (split_run d script budget (read answers)).pending ≡ Over end k → IsWatched d script budget end k
       same answers end k honest over =
           let fuel : ℕ = suc (budget + all_of budget (length answers)) in
-          let f : Finishes d fuel budget 0 p0 (idle_user k0.agreed) (watched_of d script budget) = ends_at fuel (omega arith) in
+          let f : Finishes d uses fuel budget 0 p0 (idle_user k0.agreed) (watched_of d script budget) = ends_at fuel (omega arith) in
           let there : meet d fuel (length answers) p0 (idle_user k0.agreed) ≡ Over end k =
           meets d fuel budget answers [] p0 (idle_user k0.agreed) end k (first fuel) (omega arith) (f.grants (length answers)) honest over in
           is_watched fuel f end k (one_end d fuel budget (length answers) f.turns p0 (idle_user k0.agreed) end (watched_of d script budget).end k f.kernel there f.meets)
 
       -- the turns are no more than this, whatever fuel there is
       most_turns : ℕ
-      most_turns = 4 * (watched_of d script budget).world.clock.ticks + 6 * (watched_of d script budget).world.kept.calls
+      most_turns = 6 * (watched_of d script budget).world.clock.ticks + 6 * (watched_of d script budget).world.kept.calls
 
       ends : (answers : List Message) × (end : End) × (k : Kernel) × IsHonest d [] (split_run d script budget (read answers)).sent answers × ((split_run d script budget (read answers)).pending ≡ Over end k)
       ends =
           let fuel : ℕ = suc (budget + all_of budget most_turns) in
-          let f : Finishes d fuel budget 0 p0 (idle_user k0.agreed) (watched_of d script budget) = ends_at fuel (omega arith) in
+          let f : Finishes d uses fuel budget 0 p0 (idle_user k0.agreed) (watched_of d script budget) = ends_at fuel (omega arith) in
           let ticks : f.kernel.world.clock.ticks ≡ (watched_of d script budget).world.clock.ticks = ap (λ (w : World). w.clock.ticks) f.world in
           let calls : f.kernel.world.kept.calls ≡ (watched_of d script budget).world.kept.calls = ap (λ (w : World). w.kept.calls) f.world in
-          let few : f.turns ≤ most_turns = omega (arith, f.few, f.bound, ticks, calls) in
+          let few : f.turns ≤ most_turns = omega (arith, f.few, f.bound.six, ticks, calls) in
           let rises : all_of budget f.turns ≤ all_of budget most_turns = all_rise budget f.turns most_turns few in
           let r : Reaches d fuel budget [] p0 (answers_of d fuel budget f.turns p0 (idle_user k0.agreed)) (watched_of d script budget).end f.kernel =
           reaches d fuel budget f.turns [] p0 (idle_user k0.agreed) (watched_of d script budget).end f.kernel (first fuel) (omega (arith, rises)) (f.grants f.turns) f.meets in
           (answers_of d fuel budget f.turns p0 (idle_user k0.agreed), (watched_of d script budget).end, f.kernel, r.honest, r.reached)
 
 pub split_is_one_memory : SplitIsOneMemory
-split_is_one_memory program plan script budget sound nothing bodies planned bound =
+split_is_one_memory program plan script budget sound bodies planned bound =
     let graph : CallGraph program = call_graph program in
     let uses : Uses = uses_by program graph.callees in
     let right : IsRight (driver_of program plan) uses = is_right program plan graph.callees sound bodies planned graph.are in
     let there : EachHasBody program = λ f func names. body_there program plan graph.callees sound bodies planned graph.are f func names in
-    let itself : CallsItself uses (driver_of program plan).kernel =
-    programs_are_drivers.kernel program plan planned.roots planned.halves planned.are_halves planned.is_plan.halves_are there graph.callees (one_graph_without program nothing graph.callees graph.are) in
+    let itself : CallsNothingBack program → CallsItself uses (driver_of program plan).kernel =
+    λ nothing. programs_are_drivers.kernel program plan planned.roots planned.halves planned.are_halves planned.is_plan.halves_are there graph.callees (one_graph_without program nothing graph.callees graph.are) in
     one_memory (driver_of program plan) uses right itself (programs_are_drivers.halves program there plan) script budget bound

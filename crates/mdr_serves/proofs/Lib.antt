@@ -18,6 +18,11 @@ pub mod Coming
 pub mod Answers
 pub mod Right
 pub mod KernelWork
+pub mod Whole
+pub mod Runs
 pub mod Serves
+pub mod Calls
+pub mod KernelCode
+pub mod Rooms
 pub mod Commands
 pub mod LawProof

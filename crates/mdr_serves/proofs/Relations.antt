@@ -12,7 +12,7 @@ use Rattle.mdr_core.specs.Sound.{IsSound}
 use Rattle.mdr_core.specs.Suited.{IsSuited}
 use Rattle.mdr_extents.specs.Extent.{is_touched}
 use Rattle.mdr_holds.specs.Holding.{Holds, shape_of}
-use Rattle.mdr_holds.specs.Laws.{IsDriver, TakesFirst}
+use Rattle.mdr_holds.specs.Laws.{CallsItself, IsDriver, TakesFirst}
 use Rattle.mdr_holds.specs.Leaving.{AreObjects}
 use Rattle.mdr_meaning.specs.declared.shape.Shape64.{Shape64}
 use Rattle.mdr_meaning.specs.declared.wire.Wire.{Wire}
@@ -67,9 +67,9 @@ pub record IsRight (d : Driver) (uses : Uses) : Type 0 where
   -- the user half has the bodies of its functions
   pub own : (f : ℕ) (func : Func) → slice_get d.program.funcs f ≡ Some func → is_user d.plan f ≡ true → (body : Body) × (d.user.own f ≡ Some body)
   -- its trees are strict, with more fuel than ticks
-  pub strict : (r n f : ℕ) → r < n → (func : Func) (K : Knowledge) (args : List Wire) → K.uses ≡ uses → KnowsGlobals d.program K → slice_get d.program.funcs f ≡ Some func → is_user d.plan f ≡ true
+  pub strict : (r n f depth : ℕ) → r < n → depth ≤ 255 → (func : Func) (K : Knowledge) (args : List Wire) → K.uses ≡ uses → KnowsGlobals d.program K → slice_get d.program.funcs f ≡ Some func → is_user d.plan f ≡ true
       → AllFit d.program K args (map (λ (p : Param). p.ty) func.params)
-      → Strict (Opens d f) d.program d.user r K [] (started d.user n f args 0 Tree.Idle)
+      → Strict (Opens d f) d.program d.user r K [] (started d.user n f args depth Tree.Idle)
 
 -- ---- what the user half was told
 
@@ -92,15 +92,22 @@ learns_grows K news = record { stays = λ serial shape e. ap (λ (o : Option Sha
 pub grows_same : (K : Knowledge) → Grows K K
 grows_same K = record { stays = λ serial shape e. e; same = refl }
 
+pub known_grows : (K K' : Knowledge) → Grows K K' → (serial : ℕ) → known_by K serial ≡ true → known_by K' serial ≡ true
+unfolding known_by
+known_grows K K' grows serial known = of (K.blocks serial) refl known
+  where
+    of : (o : Option Shape) → K.blocks serial ≡ o → is_some o ≡ true → is_some (K'.blocks serial) ≡ true
+    of (Some shape) e h = ap (λ (x : Option Shape). is_some x) (grows.stays serial shape e)
+    of None e h = absurd (Prim.cc)
+
 -- ---- the relations
 
--- the upcall of function t, in which these objects live
-abbrev pub open_of : (t : ℕ) → (live : List Wire) → Open
-open_of t live = record { func = t; entered = serials_of live }
+-- an upcall of function t with so many functions active before it, in which these objects live
+abbrev pub open_of : (t depth : ℕ) → (live : List Wire) → Open
+open_of t depth live = record { func = t; depth = depth; entered = serials_of live }
 
 -- the kernel half has control: both halves agree on this copy. All that was born is known to `K`, what the user half was told to `KU`
-pub record Agree (d : Driver) (uses : Uses) (budget : ℕ) (KU : Knowledge) (copy : Memory) (w : World) : Type 0 where
-  pub K : Knowledge
+pub record Agree (d : Driver) (uses : Uses) (budget : ℕ) (K KU : Knowledge) (copy : Memory) (w : World) : Type 0 where
   pub grows : Grows KU K
   pub uses_are : KU.uses ≡ uses
   pub globals : KnowsGlobals d.program KU
@@ -112,17 +119,16 @@ pub record Agree (d : Driver) (uses : Uses) (budget : ℕ) (KU : Knowledge) (cop
 abbrev pub used : Kernel → World → ℕ
 used k w = k.world.clock.rest - w.clock.rest
 
--- the user half has control, in an upcall of function t, with these objects of locals: the kernel half waits in state k, the whole run has come to w, and the user half's memory is um
-pub record Rel (d : Driver) (uses : Uses) (budget t : ℕ) (KU : Knowledge) (live : List Wire) (k : Kernel) (w : World) (um : Memory) : Type 0 where
+-- the user half has control, in an upcall of function t, with these objects of its locals in all upcalls that are open: the kernel half waits in state k, the whole run has come to w, and the user half's memory is um
+pub record Rel (d : Driver) (uses : Uses) (budget t : ℕ) (K KU : Knowledge) (objects : List Wire) (k : Kernel) (w : World) (um : Memory) : Type 0 where
   pub sound : IsSound d.program
-  pub K : Knowledge
   pub grows : Grows KU K
   pub uses_are : KU.uses ≡ uses
   pub globals : KnowsGlobals d.program KU
   pub holds : Holds d.program K w
   pub memories : IsShared d.program (known_by KU) (next_serial w) (top w.views) k.agreed k.world.memory w.memory um
   pub set : IsSetOf d.program (touched_by d.plan t) w.memory (top w.views)
-  pub objects : AreObjects w.memory 0 live
+  pub objects_are : AreObjects w.memory 0 objects
   pub same_lives : k.world.lives ≡ w.lives
   pub same_views : k.world.views ≡ w.views
   pub same_kept : k.world.kept ≡ w.kept
@@ -151,9 +157,20 @@ telling d values copy w = tells d.program (top w.views) values copy w.memory
 abbrev pub waiting : Driver → Told → Memory → World → ℕ → Kernel
 waiting d told copy w e = record { world = w; agreed = agreed_after d.program told copy; exchanges = e }
 
--- so many questions more are within the bound on messages
-pub record IsWithin (k : Kernel) (w : World) (questions : ℕ) : Type 0 where
-  pub bound : 2 * k.exchanges + 2 * questions ≤ 4 * w.clock.ticks + 6 * w.kept.calls
+-- messages are counted twice, and each upcall that is open has two more, with what user code may still ask in them
+abbrev pub owing : (exchanges upcalls questions : ℕ) → ℕ
+owing e u q = 2 * e + 2 * u + 2 * q
+
+-- so much is paid, with six for each tick and each command; where kernel code calls nothing back, with four for each tick
+pub record IsPaid (d : Driver) (uses : Uses) (owed : ℕ) (w : World) : Type 0 where
+  pub six : owed ≤ 6 * w.clock.ticks + 6 * w.kept.calls
+  pub four : CallsItself uses d.kernel → owed ≤ 4 * w.clock.ticks + 6 * w.kept.calls
+
+-- while the user half works so many questions more are paid: but for the innermost upcall, whose answer is awaited
+pub record IsWithin (d : Driver) (uses : Uses) (k : Kernel) (w : World) (questions : ℕ) : Type 0 where
+  pub six : owing k.exchanges (length w.views) questions ≤ 6 * w.clock.ticks + 6 * w.kept.calls + 2
+  pub four : CallsItself uses d.kernel → owing k.exchanges (length w.views) questions ≤ 4 * w.clock.ticks + 6 * w.kept.calls + 2
+  pub some : 1 ≤ length w.views
 
 -- a stop that user code may come to, and tell, before its ticks are used
 pub record IsUserStop (kind : StopKind) : Type 0 where

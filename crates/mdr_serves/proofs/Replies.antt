@@ -1,5 +1,5 @@
 -- An honest reply is legal, and storing it gives the whole run's state.
-use Rattle.std.proofs.Common.{◌≡◌, ℕ, suc, ◌+◌, ◌-◌, ◌≤◌, ◌⊎◌, inl, inr, true, false, ◌||◌, ◌&&◌, List, [], map, Option, Some, None, refl, sym, ◌∙◌, ap, subst, arith}
+use Rattle.std.proofs.Common.{◌≡◌, ℕ, suc, ◌+◌, ◌-◌, ◌<◌, ◌≤◌, ◌⊎◌, inl, inr, true, false, ◌||◌, ◌&&◌, List, [], length, map, Option, Some, None, refl, sym, ◌∙◌, ap, subst, arith}
 use Rattle.std.specs.Prelude.{is_none, is_some, nat_le, nat_lt, slice_get, ◌==◌}
 use Rattle.std.proofs.lemmas.Bool.{eq-eqb, le-leb, lt-ltb, or_left, or_right}
 use Rattle.mdr_core.specs.declared.place.At.{At}
@@ -8,6 +8,7 @@ use Rattle.mdr_core.specs.declared.program.Param.{Param}
 use Rattle.mdr_core.specs.declared.stop.StopKind.{StopKind}
 use Rattle.mdr_core.specs.declared.types.Ty.{Ty}
 use Rattle.mdr_core.specs.Services.{Service, service_numbered}
+use Rattle.mdr_holds.specs.Leaving.{AreObjects}
 use Rattle.mdr_meaning.specs.declared.wire.Wire.{Wire}
 use Rattle.mdr_meaning.specs.Fair.{AllFit, IsAsk, IsPlace, Leaves}
 use Rattle.mdr_meaning.specs.Fit.{IsResult, Knowledge}
@@ -36,11 +37,11 @@ use Rattle.mdr_serves.proofs.Relations.{Agree, known_by, IsRight, IsUserStop, Is
 use Rattle.mdr_serves.proofs.Strict.{IsStatement}
 use Rattle.mdr_split.specs.Kernel.{applied}
 use Rattle.mdr_split.specs.Legal.{fault_of, has_down_stub, is_object_service}
-use Rattle.mdr_split.specs.State.{Kernel, Noted}
+use Rattle.mdr_split.specs.State.{Kernel, Open, Rest}
 use Rattle.mdr_watched.specs.Driver.{Driver}
 
 -- storing it gives the whole run's state
-pub stores_reply : (d : Driver) (uses : Uses) (budget t : ℕ) (KU : Knowledge) (live : List Wire) (k : Kernel) (w : World) (um : Memory) → Rel d uses budget t KU live k w um
+pub stores_reply : {K : Knowledge} (d : Driver) (uses : Uses) (budget t : ℕ) (KU : Knowledge) (live : List Wire) (k : Kernel) (w : World) (um : Memory) → Rel d uses budget t K KU live k w um
     → applied (used k w) (told_runs k w um) k ≡ resumed k w um
 unfolding applied
 stores_reply d uses budget t KU live k w um r =
@@ -53,10 +54,9 @@ stores_reply d uses budget t KU live k w um r =
     }
 
 -- and both sides agree then
-pub agrees : (d : Driver) (uses : Uses) (budget t : ℕ) (KU : Knowledge) (live : List Wire) (k : Kernel) (w : World) (um : Memory) → Rel d uses budget t KU live k w um
-    → Agree d uses budget KU (replied_copy k w um) w
+pub agrees : {K : Knowledge} (d : Driver) (uses : Uses) (budget t : ℕ) (KU : Knowledge) (live : List Wire) (k : Kernel) (w : World) (um : Memory) → Rel d uses budget t K KU live k w um
+    → Agree d uses budget K KU (replied_copy k w um) w
 agrees d uses budget t KU live k w um r = record {
-  K = r.K;
   grows = r.grows;
   uses_are = r.uses_are;
   globals = r.globals;
@@ -68,32 +68,33 @@ agrees d uses budget t KU live k w um r = record {
 -- ---- what is passed
 
 -- arguments are passed alike
-pub args_same : (d : Driver) (uses : Uses) (budget t : ℕ) (KU : Knowledge) (live : List Wire) (k : Kernel) (w : World) (um : Memory) (args : List Wire) (types : List Ty) → Rel d uses budget t KU live k w um → AllFit d.program KU args types
+pub args_same : {K : Knowledge} (d : Driver) (uses : Uses) (budget t : ℕ) (KU : Knowledge) (live : List Wire) (k : Kernel) (w : World) (um : Memory) (args : List Wire) (types : List Ty) → Rel d uses budget t K KU live k w um → AllFit d.program KU args types
     → map (normal um) args ≡ map (normal w.memory) args
 args_same d uses budget t KU live k w um args types r fit = args_alike args types r fit
 
-pub asked_same : (d : Driver) (uses : Uses) (budget t : ℕ) (KU : Knowledge) (live : List Wire) (k : Kernel) (w : World) (um : Memory) (asked : Asked) (s : Service) → Rel d uses budget t KU live k w um → IsAsk d.program KU asked s
+pub asked_same : {K : Knowledge} (d : Driver) (uses : Uses) (budget t : ℕ) (KU : Knowledge) (live : List Wire) (k : Kernel) (w : World) (um : Memory) (asked : Asked) (s : Service) → Rel d uses budget t K KU live k w um → IsAsk d.program KU asked s
     → map (normal um) asked.args ≡ map (normal w.memory) asked.args
 asked_same d uses budget t KU live k w um asked s r ask = asked_alike asked s r ask
 
 -- ---- no fault is in it
 
-module _ {d : Driver} {uses : Uses} {budget t : ℕ} {KU : Knowledge} {live : List Wire} {k : Kernel} {w : World} {um : Memory} (right : IsRight d uses) (r : Rel d uses budget t KU live k w um) where
+module _ {d : Driver} {uses : Uses} {budget t : ℕ} {K KU : Knowledge} {objects : List Wire} {k : Kernel} {w : World} {um : Memory} (right : IsRight d uses) (r : Rel d uses budget t K KU objects k w um) where
   ticks_are : w.clock.ticks ≡ k.world.clock.ticks + used k w
   ticks_are = ap (λ (c : Clock). c.ticks) r.clock
 
   runs_legal : reply_runs_fault d k (told_runs k w um) ≡ None
-  runs_legal = reply_runs_right d k (top w.views) um (ap top r.same_views) (by_next (top w.views) r.set.rises) (λ c changed. changed_tellable d uses budget t KU live k w um right r c changed)
+  runs_legal = reply_runs_right d k (top w.views) um (ap top r.same_views) (by_next (top w.views) r.set.rises) (λ c changed. changed_tellable d uses budget t KU objects k w um right r c changed)
 
   ticks_legal : nat_le (used k w) k.world.clock.rest ≡ true
   ticks_legal = le-leb _ _ (omega arith)
 
   -- what it asks for is within the bound
-  awaited : (credit : ℕ) → IsWithin k w (suc credit) → is_awaited k (used k w) ≡ true
+  awaited : (credit : ℕ) → IsWithin d uses k w (suc credit) → is_awaited k (used k w) ≡ true
   unfolding is_awaited
   awaited credit within =
       let calls : k.world.kept.calls ≡ w.kept.calls = ap (λ (x : Kept). x.calls) r.same_kept in
-      le-leb _ _ (omega (arith, within.bound, ticks_are, calls))
+      let open_are : length k.world.views ≡ length w.views = ap length r.same_views in
+      le-leb _ _ (omega (arith, within.six, ticks_are, calls, open_are))
 
   statement : (at : At) → IsStatement d.user at → is_user_place d at ≡ true
   unfolding is_user_place
@@ -112,52 +113,51 @@ module _ {d : Driver} {uses : Uses} {budget t : ℕ} {KU : Knowledge} {live : Li
       of (inl zero_is) = or_right (is_user_place d at) (is_object_service service && (at.stmt == 0 && is_some (d.user.own at.func))) (at_zero zero_is)
       of (inr there) = or_left (is_user_place d at) _ (statement at (ap (λ (o : Option Body). has_statement o at.stmt) place.own ∙ there))
 
-pub legal_return : (d : Driver) (uses : Uses) (budget t : ℕ) (KU : Knowledge) (k : Kernel) (w : World) (um : Memory) (func : Func) (v : Wire) → IsRight d uses → Rel d uses budget t KU [] k w um
-    → slice_get d.program.funcs t ≡ Some func → IsResult d.program KU func.result v
-    → fault_of d k (open_of t []) Noted (replies.Return (used k w) (normal um v) (told_runs k w um)) ≡ None
-unfolding fault_of
-legal_return d uses budget t KU k w um func v right r names fits =
-    let result : fits_result (kernel_places d k) (result_of (slice_get d.program.funcs t)) (normal um v) ≡ true =
-    ap (λ (ty : Ty). fits_result (kernel_places d k) ty (normal um v)) (result_is (slice_get d.program.funcs t) func names) ∙ result_fits (judges d uses budget t KU [] k w um right r) func.result v fits in
-    rw (ticks_legal right r, result, runs_legal right r) refl
+  -- of an upcall in which no object lives
+  pub legal_return : (depth : ℕ) (func : Func) (v : Wire) (rest : Rest) → slice_get d.program.funcs t ≡ Some func → IsResult d.program KU func.result v
+      → fault_of d k (open_of t depth []) rest (replies.Return (used k w) (normal um v) (told_runs k w um)) ≡ None
+  unfolding fault_of
+  legal_return depth func v rest names fits =
+      let result : fits_result (kernel_places d k) (result_of (slice_get d.program.funcs t)) (normal um v) ≡ true =
+      ap (λ (ty : Ty). fits_result (kernel_places d k) ty (normal um v)) (result_is (slice_get d.program.funcs t) func names) ∙ result_fits (judges d uses budget t KU objects k w um right r) func.result v fits in
+      rw (ticks_legal, result, runs_legal) refl
 
-pub legal_stop : (d : Driver) (uses : Uses) (budget t : ℕ) (KU : Knowledge) (live : List Wire) (k : Kernel) (w : World) (um : Memory) (kind : StopKind) (at : At) → IsRight d uses → Rel d uses budget t KU live k w um
-    → IsStatement d.user at → IsUserStop kind
-    → fault_of d k (open_of t live) Noted (replies.Stop (used k w) (stop_number kind) at (told_runs k w um)) ≡ None
-unfolding fault_of
-legal_stop d uses budget t KU live k w um kind at right r place own =
-    let there : is_none (user_stop (stop_number kind)) ≡ false = ap (λ (o : Option StopKind). is_none o) own.told in
-    rw (ticks_legal right r, statement right r at place, there, own.no_ticks, runs_legal right r) refl
+  pub legal_stop : (upcall : Open) (kind : StopKind) (at : At) (rest : Rest) → IsStatement d.user at → IsUserStop kind
+      → fault_of d k upcall rest (replies.Stop (used k w) (stop_number kind) at (told_runs k w um)) ≡ None
+  unfolding fault_of
+  legal_stop upcall kind at rest place own =
+      let there : is_none (user_stop (stop_number kind)) ≡ false = ap (λ (o : Option StopKind). is_none o) own.told in
+      rw (ticks_legal, statement at place, there, own.no_ticks, runs_legal) refl
 
-pub legal_ticks : (d : Driver) (uses : Uses) (budget t : ℕ) (KU : Knowledge) (live : List Wire) (k : Kernel) (w : World) (um : Memory) (at : At) → IsRight d uses → Rel d uses budget t KU live k w um
-    → IsStatement d.user at → w.clock.rest ≡ 0
-    → fault_of d k (open_of t live) Noted (replies.Stop (used k w) 16 at (told_runs k w um)) ≡ None
-unfolding fault_of user_stop
-legal_ticks d uses budget t KU live k w um at right r place none =
-    let all : (used k w == k.world.clock.rest) ≡ true = ap (λ (n : ℕ). k.world.clock.rest - n == k.world.clock.rest) none ∙ eq-eqb _ _ (omega arith) in
-    rw (ticks_legal right r, statement right r at place, all, runs_legal right r) refl
+  pub legal_ticks : (upcall : Open) (at : At) (rest : Rest) → IsStatement d.user at → w.clock.rest ≡ 0
+      → fault_of d k upcall rest (replies.Stop (used k w) 16 at (told_runs k w um)) ≡ None
+  unfolding fault_of user_stop
+  legal_ticks upcall at rest place none =
+      let all : (used k w == k.world.clock.rest) ≡ true = ap (λ (n : ℕ). k.world.clock.rest - n == k.world.clock.rest) none ∙ eq-eqb _ _ (omega arith) in
+      rw (ticks_legal, statement at place, all, runs_legal) refl
 
-pub legal_ask : (d : Driver) (uses : Uses) (budget t : ℕ) (KU : Knowledge) (live remains : List Wire) (k : Kernel) (w : World) (um : Memory) (asked : Asked) (s : Service) (credit : ℕ) → IsRight d uses → Rel d uses budget t KU live k w um
-    → IsPlace d.user asked.at → IsStatement d.user asked.at ⊎ (is_object_service asked.service ≡ true)
-    → service_numbered asked.service ≡ Some s → IsAsk d.program KU asked s → Leaves s asked live remains → IsWithin k w (suc credit)
-    → fault_of d k (open_of t live) Noted (replies.Ask (used k w) asked.at asked.service (map (normal um) asked.args) asked.shapes asked.bytes (told_runs k w um)) ≡ None
-unfolding fault_of
-legal_ask d uses budget t KU live remains k w um asked s credit right r place standing names ask leaves within =
-    let question : service_fault d k (open_of t live) asked.service (map (normal um) asked.args) asked.shapes asked.bytes ≡ None =
-    question_fits d k KU um w.memory (open_of t live) asked s 0 live remains (judges d uses budget t KU live k w um right r)
-    (λ f func is handles. right.handlers f func is (ap (λ (u : Uses). u.handles f) (sym r.uses_are) ∙ handles))
-    (lives_too d uses budget t KU live k w um right r) names ask (objects_whole w.memory 0 live r.objects) refl leaves in
-    rw (awaited right r credit within, ticks_legal right r, ask_place right r asked.service asked.at place standing, question, runs_legal right r) refl
+  -- of an upcall in which these objects live
+  pub legal_ask : (depth : ℕ) (live remains : List Wire) (asked : Asked) (s : Service) (credit : ℕ) (rest : Rest) → AreObjects w.memory 0 live
+      → IsPlace d.user asked.at → IsStatement d.user asked.at ⊎ (is_object_service asked.service ≡ true)
+      → service_numbered asked.service ≡ Some s → IsAsk d.program KU asked s → Leaves s asked live remains → IsWithin d uses k w (suc credit)
+      → fault_of d k (open_of t depth live) rest (replies.Ask (used k w) asked.at asked.service (map (normal um) asked.args) asked.shapes asked.bytes (told_runs k w um)) ≡ None
+  unfolding fault_of
+  legal_ask depth live remains asked s credit rest own place standing names ask leaves within =
+      let question : service_fault d k (open_of t depth live) asked.service (map (normal um) asked.args) asked.shapes asked.bytes ≡ None =
+      question_fits d k KU um w.memory (open_of t depth live) asked s 0 live remains (judges d uses budget t KU objects k w um right r)
+      (λ f func is handles. right.handlers f func is (ap (λ (u : Uses). u.handles f) (sym r.uses_are) ∙ handles))
+      (lives_too d uses budget t KU objects k w um right r) names ask (objects_whole w.memory 0 live own) refl leaves in
+      rw (awaited credit within, ticks_legal, ask_place asked.service asked.at place standing, question, runs_legal) refl
 
-pub legal_down : (d : Driver) (uses : Uses) (budget t : ℕ) (KU : Knowledge) (live : List Wire) (k : Kernel) (w : World) (um : Memory) (at : At) (f : ℕ) (func : Func) (args : List Wire) (depth credit : ℕ) → IsRight d uses → Rel d uses budget t KU live k w um
-    → IsStatement d.user at → has_down_stub d f ≡ true → slice_get d.program.funcs f ≡ Some func → AllFit d.program KU args (map (λ (p : Param). p.ty) func.params)
-    → 1 ≤ depth → depth ≤ 255 → IsWithin k w (suc credit)
-    → fault_of d k (open_of t live) Noted (replies.Down (used k w) at depth f (map (normal um) args) (told_runs k w um)) ≡ None
-unfolding fault_of
-legal_down d uses budget t KU live k w um at f func args depth credit right r place stub names fit some limited within =
-    let positive : nat_lt 0 depth ≡ true = lt-ltb _ _ some in
-    let few : nat_le depth 255 ≡ true = le-leb _ _ limited in
-    let args_right : args_fault (fits (kernel_places d k)) 0 (params_of (slice_get d.program.funcs f)) (map (normal um) args) ≡ None =
-    ap (λ (ts : List Ty). args_fault (fits (kernel_places d k)) 0 ts (map (normal um) args)) (params_are (slice_get d.program.funcs f) func names)
-    ∙ args_fit (judges d uses budget t KU live k w um right r) (map (λ (p : Param). p.ty) func.params) args fit 0 in
-    rw (awaited right r credit within, ticks_legal right r, statement right r at place, positive, few, stub, args_right, runs_legal right r) refl
+  pub legal_down : (upcall : Open) (at : At) (f : ℕ) (func : Func) (args : List Wire) (depth credit : ℕ) (rest : Rest)
+      → IsStatement d.user at → has_down_stub d f ≡ true → slice_get d.program.funcs f ≡ Some func → AllFit d.program KU args (map (λ (p : Param). p.ty) func.params)
+      → upcall.depth < depth → depth ≤ 255 → IsWithin d uses k w (suc credit)
+      → fault_of d k upcall rest (replies.Down (used k w) at depth f (map (normal um) args) (told_runs k w um)) ≡ None
+  unfolding fault_of
+  legal_down upcall at f func args depth credit rest place stub names fit deeper limited within =
+      let positive : nat_lt upcall.depth depth ≡ true = lt-ltb _ _ deeper in
+      let few : nat_le depth 255 ≡ true = le-leb _ _ limited in
+      let args_right : args_fault (fits (kernel_places d k)) 0 (params_of (slice_get d.program.funcs f)) (map (normal um) args) ≡ None =
+      ap (λ (ts : List Ty). args_fault (fits (kernel_places d k)) 0 ts (map (normal um) args)) (params_are (slice_get d.program.funcs f) func names)
+      ∙ args_fit (judges d uses budget t KU objects k w um right r) (map (λ (p : Param). p.ty) func.params) args fit 0 in
+      rw (awaited credit within, ticks_legal, statement at place, positive, few, stub, args_right, runs_legal) refl

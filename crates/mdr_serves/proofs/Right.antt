@@ -33,6 +33,7 @@ use Rattle.mdr_meaning.specs.Sides.{Body, Side}
 use Rattle.mdr_meaning.specs.Tree.{Tree}
 use Rattle.mdr_meaning.specs.Within.{CodesWithin, Uses}
 use Rattle.mdr_meaning.proofs.FairLaws.{trees_are_fair}
+use Rattle.mdr_model.proofs.Tests.{and_both}
 use Rattle.mdr_paths.specs.Chains.{Chain}
 use Rattle.mdr_paths.specs.Numbers.{numbers}
 use Rattle.mdr_paths.specs.Paths.{is_in}
@@ -154,11 +155,16 @@ module _ (program : Program) (plan : Plan) (callees : List (List ℕ)) (sound : 
       ap (λ (b : Bool). is_some (chosen (not b) (body_of program f) None)) here ∙ ap (λ (o : Option Body). is_some o) (body_there f func names).1
 
   crossed : (f g : ℕ) (body : Body) (func : Func) → own_body f ≡ Some body → own_body g ≡ None → slice_get program.funcs g ≡ Some func → uses_now.calls f g ≡ true → has_down_stub (driver_of program plan) g ≡ true
+  unfolding kernel_side
   crossed f g body func own none names calls =
       let there = body_there g func names in
+      let here : is_user plan g ≡ false = none_kernel (is_user plan g) (body_of program g) there.0 none there.1 in
       let user : slice_get halves_now f ≡ Some User = half_user f (own_user (is_user plan f) (body_of program f) body own).0 in
-      let kernel : slice_get halves_now g ≡ Some Kernel = kernel_half g (slice_get_within program.funcs g func names) (none_kernel (is_user plan g) (body_of program g) there.0 none there.1) in
-      ap (λ (xs : List Bool). is_true (slice_get xs g)) planned.is_plan.down ∙ ap is_true (crossings_have_stubs program planned.roots planned.halves planned.are_halves callees graph f g user kernel calls)
+      let kernel : slice_get halves_now g ≡ Some Kernel = kernel_half g (slice_get_within program.funcs g func names) here in
+      let stub : is_true (slice_get plan.down g) ≡ true =
+      ap (λ (xs : List Bool). is_true (slice_get xs g)) planned.is_plan.down ∙ ap is_true (crossings_have_stubs program planned.roots planned.halves planned.are_halves callees graph f g user kernel calls) in
+      let bodied : is_kernel_half (driver_of program plan) g ≡ true = ap (λ (b : Bool). is_some (chosen (not b) (body_of program g) None)) here ∙ ap (λ (o : Option Body). is_some o) there.1 in
+      and_both _ _ stub bodied
 
   -- ---- what functions touch
 
@@ -223,30 +229,30 @@ module _ (program : Program) (plan : Plan) (callees : List (List ℕ)) (sound : 
         let there = own_there t func names user in
         (there.0, ap (λ (b : Bool). chosen b (own_body t) None) (all_from (touched_by plan t) (touched_by plan t) (λ k h. h)) ∙ there.1)
 
-    part_fair : (n : ℕ) (func : Func) (K : Knowledge) (args : List Wire) → K.uses ≡ uses_now → KnowsGlobals program K → slice_get program.funcs t ≡ Some func → is_user plan t ≡ true
-        → AllFit program K args (map (λ (p : Param). p.ty) func.params) → Fair program part_side func.result K [] (started part_side n t args 0 Tree.Idle)
+    part_fair : (n depth : ℕ) → depth ≤ 255 → (func : Func) (K : Knowledge) (args : List Wire) → K.uses ≡ uses_now → KnowsGlobals program K → slice_get program.funcs t ≡ Some func → is_user plan t ≡ true
+        → AllFit program K args (map (λ (p : Param). p.ty) func.params) → Fair program part_side func.result K [] (started part_side n t args depth Tree.Idle)
     unfolding user_side
-    part_fair n func K args same globals names user fit =
+    part_fair n depth shallow func K args same globals names user fit =
         let there = itself_there func names user in
-        let start : IsStart program part_side K t func args 0 = record {
+        let start : IsStart program part_side K t func args depth = record {
           globals = globals;
           within = record { bodies = λ f body e. subst (λ (u : Uses). CodesWithin program u body.slots f body.code) (sym same) (is_driver.user.within.bodies f body (part_own f body e)) };
           names = names;
           body = there.0;
           own = there.1;
           fit = fit;
-          limited = omega arith;
+          limited = omega (arith, shallow);
         } in
-        trees_are_fair program sound part_side side_is n t func K args 0 start Tree.Idle
+        trees_are_fair program sound part_side side_is n t func K args depth start Tree.Idle
 
-  strict_trees : (r n f : ℕ) → r < n → (func : Func) (K : Knowledge) (args : List Wire) → K.uses ≡ uses_now → KnowsGlobals program K → slice_get program.funcs f ≡ Some func → is_user plan f ≡ true
+  strict_trees : (r n f depth : ℕ) → r < n → depth ≤ 255 → (func : Func) (K : Knowledge) (args : List Wire) → K.uses ≡ uses_now → KnowsGlobals program K → slice_get program.funcs f ≡ Some func → is_user plan f ≡ true
       → AllFit program K args (map (λ (p : Param). p.ty) func.params)
-      → Strict (Opens (driver_of program plan) f) program (driver_of program plan).user r K [] (started (driver_of program plan).user n f args 0 Tree.Idle)
+      → Strict (Opens (driver_of program plan) f) program (driver_of program plan).user r K [] (started (driver_of program plan).user n f args depth Tree.Idle)
   unfolding user_side
-  strict_trees r n f less func K args same globals names user fit =
+  strict_trees r n f depth less shallow func K args same globals names user fit =
       let there = itself_there f func names user in
-      started_strict (Opens (driver_of program plan) f) program (known_of program) func.result uses_now own_body (part_body f) (part_own f) (part_closed f) (part_opens f) n r f less there.0 there.1 args K same
-      (part_fair f n func K args same globals names user fit)
+      started_strict (Opens (driver_of program plan) f) program (known_of program) func.result uses_now own_body (part_body f) (part_own f) (part_closed f) (part_opens f) n r f depth less there.0 there.1 args K same
+      (part_fair f n depth shallow func K args same globals names user fit)
 
   pub is_right : IsRight (driver_of program plan) uses_now
   unfolding user_side

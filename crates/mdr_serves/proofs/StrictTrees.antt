@@ -644,12 +644,12 @@ module _ (Opens : Shape64 → Type 0) (program : Program) (known : Numbered) (to
     }
 
     -- a function of both sides that is started
-    pub started_strict : (n r f : ℕ) → r < n → (body : Body) → part f ≡ Some body → (args : List Wire) (K : Knowledge) → K.uses ≡ uses → FairTo 256 program small top K [] (started small n f args 0 Tree.Idle)
-        → Strict Opens program big r K [] (started big n f args 0 Tree.Idle)
+    pub started_strict : (n r f depth : ℕ) → r < n → (body : Body) → part f ≡ Some body → (args : List Wire) (K : Knowledge) → K.uses ≡ uses → FairTo 256 program small top K [] (started small n f args depth Tree.Idle)
+        → Strict Opens program big r K [] (started big n f args depth Tree.Idle)
     unfolding started
-    started_strict n r f less body is' args K same fair =
-        let start : Here = record { func = f; depth = 0; slots = []; result = Void } in
-        let inner : Here = record { func = f; depth = 1; slots = body.slots; result = body.result } in
+    started_strict n r f depth less body is' args K same fair =
+        let start : Here = record { func = f; depth = depth; slots = []; result = Void } in
+        let inner : Here = record { func = f; depth = suc depth; slots = body.slots; result = body.result } in
         let both : T r (goes_to big (means big n) start (in_here start 0) f args (Some body) (λ v. Tree.Done v Tree.Idle)) (goes_to small (means small n) start (in_here start 0) f args (Some body) (λ v. Tree.Done v Tree.Idle)) =
         enters_both (means big n) (means small n) r (means_both n r less) start inner body (inside f body is') is' args {k = λ v. Tree.Done v Tree.Idle} {k' = λ v. Tree.Done v Tree.Idle} (record { by = λ q fewer v. record { by = λ K' live same' fair'. tt } }) in
         subst (λ (o : Option Body). Strict Opens program big r K [] (goes_to big (means big n) start (in_here start 0) f args o (λ v. Tree.Done v Tree.Idle))) (sym (inside f body is'))

@@ -1,8 +1,10 @@
 -- An answer ends a run refused exactly where it isn't legal, and leaves the whole state.
-use Rattle.std.proofs.Common.{◌≡◌, ℕ, List, [], ◌∷◌, ◌++◌, Option, Some, None, Ok, Err, refl, sym, ◌∙◌, ap, subst}
+use Rattle.std.proofs.Common.{◌≡◌, ℕ, Bool, true, false, List, [], ◌∷◌, ◌++◌, map, Option, Some, None, Ok, Err, refl, sym, ◌∙◌, ap, subst}
 use Rattle.std.proofs.lemmas.List.{append-nil}
 use Rattle.mdr_core.specs.declared.refusal.RefuseKind.{RefuseKind}
 use Rattle.mdr_core.specs.declared.refusal.RefuseKind.TheVariants as refusal
+use Rattle.mdr_core.specs.declared.stop.StopKind.TheVariants as stop
+use Rattle.mdr_core.specs.Layout.{chosen}
 use Rattle.mdr_meaning.specs.declared.wire.Wire.{Wire}
 use Rattle.mdr_meaning.specs.Tree.{Asked}
 use Rattle.mdr_model.specs.declared.command.Command.{Command}
@@ -14,15 +16,19 @@ use Rattle.mdr_model.specs.declared.reply.Reply.TheVariants as replies
 use Rattle.mdr_model.specs.Faults.{fault}
 use Rattle.mdr_model.specs.KernelState.{Reading}
 use Rattle.mdr_model.specs.Law.{IsOwn}
+use Rattle.mdr_model.specs.Memory.{normal}
 use Rattle.mdr_model.specs.ReplyFaults.{reply_of}
-use Rattle.mdr_plain.specs.Scripts.{Beginning, Did, Enters, Opens, begin}
-use Rattle.mdr_plain.specs.World.{World, Ran, Ended, Stopped, Work}
+use Rattle.mdr_plain.specs.Atomic.{is_atomic}
+use Rattle.mdr_plain.specs.Running.{Went, Gave, Calls, interrupts}
+use Rattle.mdr_plain.specs.Scripts.{Beginning, Did, Enters, Opens, begin, returned}
+use Rattle.mdr_plain.specs.World.{World, Ran, Ended, Stopped, Work, after}
 use Rattle.mdr_bound.specs.declared.bound.Bound.{Bound}
 use Rattle.mdr_split.specs.AnyAnswers.{EndsUnchanged, answer_fault, message_fault}
-use Rattle.mdr_split.specs.Kernel.{SplitRun, answered, answers, applied, begins, called, calls, comes_back, downcalled, ended, entered, first_kernel, judged, next, refused, run_from_pending, serviced, split_by, split_commands, split_run, taken, then_split}
-use Rattle.mdr_split.specs.State.{Kernel, Open, Rest, Noted, Pending, Over, Waits}
+use Rattle.mdr_split.specs.Kernel.{SplitRun, answered, answers, applied, begins, called, calls, comes_back, downcalled, ended, first_kernel, gave, judged, kernel_tree, next, over, refused, run_from_pending, runs_kernel, serviced, split_by, split_commands, split_run, taken, then_split, went}
+use Rattle.mdr_split.specs.State.{Kernel, Open, Base, Commanded, Down, Rest, Noted, Resumes, Pending, Over, Waits}
 use Rattle.mdr_watched.specs.Driver.{Driver, is_user}
-use Rattle.mdr_watched.specs.Watched.{downcall, held, kernel_of, may_not, serves}
+use Rattle.mdr_watched.specs.Views.{closed}
+use Rattle.mdr_watched.specs.Watched.{held, kernel_of, returns_to, serves}
 
 -- ---- one answer more
 
@@ -62,35 +68,53 @@ module _ (d : Driver) where
   then_ends (Ended x w) k go later = later _
   then_ends (Stopped kind at w) k go later = tt
 
-  called_ends : (f : ℕ) (args : List Wire) (work : Work) (k : Kernel) (script : List Command) → EndsItself (called d f args work k script)
-  called_ends f args (Ended x w) k script = tt
-  called_ends f args (Stopped kind at w) k script = tt
+  called_ends : (f : ℕ) (args : List Wire) (depth : ℕ) (work : Work) (k : Kernel) (rest : Rest) (script : List Command) → EndsItself (called d f depth args work k rest script)
+  called_ends f args depth (Ended x w) k rest script = tt
+  called_ends f args depth (Stopped kind at w) k rest script = tt
 
-  calls_end : (f : ℕ) (args : List Wire) (w : World) (k : Kernel) (script : List Command) → EndsItself (calls d f args w k script)
+  calls_end : (f : ℕ) (args : List Wire) (depth : ℕ) (w : World) (k : Kernel) (rest : Rest) (script : List Command) → EndsItself (calls d f depth args w k rest script)
   unfolding calls
-  calls_end f args w k script = called_ends f args (begins d f args w) k script
+  calls_end f args depth w k rest script = called_ends f args depth (begins d f args w) k rest script
+
+  back_ends : (v : Wire) (w : World) (k : Kernel) (upcall : Open) (rest : Rest) (script : List Command) → EndsItself (comes_back d v w k upcall rest script)
+  unfolding comes_back
+  back_ends v w k upcall rest script = tt
+
+  down_ends : (ran : Ran Wire) (k : Kernel) (upcall : Open) (rest : Rest) (script : List Command) → EndsItself (downcalled d ran k upcall rest script)
+  down_ends (Ended v w) k upcall rest script = back_ends v w k upcall rest script
+  down_ends (Stopped kind at w) k upcall rest script = tt
+
+  -- ---- code of the kernel half
+
+  gave_ends : (base : Base) (ran : Ran Wire) (k : Kernel) (go : Kernel → Pending) (script : List Command) → ((k : Kernel) → EndsItself (go k)) → EndsItself (gave d base ran k go script)
+  gave_ends Commanded ran k go script later = then_ends (returned (interrupts (kernel_of d)) ran) k go later
+  gave_ends (Down at f args upcall rest) ran k go script later = down_ends (after ran (λ v w. returns_to d (held d) upcall.func at f args v w)) k upcall rest script
+
+  went_ends : (base : Base) (g : Went) (k : Kernel) (go : Kernel → Pending) (script : List Command) → ((k : Kernel) → EndsItself (go k)) → EndsItself (went d base g k go script)
+  went_ends base (Gave ran) k go script later = gave_ends base ran k go script later
+  went_ends base (Calls at f args depth next' w) k go script later = of (is_atomic w)
+    where
+      of : (b : Bool) → EndsItself (chosen b (over (ends.Stop stop.Atomic (Some at)) w k) (calls d f depth (map (normal w.memory) args) w k (Resumes next' base) script))
+      of true = tt
+      of false = calls_end f (map (normal w.memory) args) depth w k (Resumes next' base) script
+
+  -- ---- commands
 
   begun_ends : (b : Beginning) (script : List Command) (k : Kernel) (go : Kernel → Pending) → ((k : Kernel) → EndsItself (go k)) → EndsItself (split_by b d script k go)
   begun_ends (Did work) script k go later = then_ends work k go later
-  begun_ends (Enters f args w) script k go later = then_ends (entered d f args w) k go later
-  begun_ends (Opens f args w) script k go later = calls_end f args w k script
+  begun_ends (Enters f args w) script k go later = went_ends Commanded (runs_kernel d (kernel_tree d f args 0 w) w) k go script later
+  begun_ends (Opens f args w) script k go later = calls_end f args 0 w k Noted script
 
   pub commands_end : (script : List Command) (k : Kernel) → EndsItself (split_commands d script k)
   unfolding split_commands
   commands_end [] k = tt
   commands_end (c ∷ cs) k = begun_ends (begin (kernel_of d) (is_user d.plan) c k.world) cs k (λ k'. split_commands d cs k') (λ k'. commands_end cs k')
 
-  back_ends : (v : Wire) (w : World) (k : Kernel) (upcall : Open) (rest : Rest) (script : List Command) → EndsItself (comes_back d v w k upcall rest script)
-  unfolding comes_back
-  back_ends v w k upcall rest script = tt
+  -- ---- answers
 
   answer_ends : (results : List Wire) (w : World) (k : Kernel) (upcall : Open) (rest : Rest) (script : List Command) → EndsItself (answers d results w k upcall rest script)
   unfolding answers
   answer_ends results w k upcall rest script = tt
-
-  down_ends : (ran : Ran Wire) (k : Kernel) (upcall : Open) (rest : Rest) (script : List Command) → EndsItself (downcalled d ran k upcall rest script)
-  down_ends (Ended v w) k upcall rest script = back_ends v w k upcall rest script
-  down_ends (Stopped kind at w) k upcall rest script = tt
 
   service_ends : (asked : Asked) (ran : Ran (List Wire)) (k : Kernel) (upcall : Open) (rest : Rest) (script : List Command) → EndsItself (serviced d asked ran k upcall rest script)
   service_ends asked (Ended results w) k upcall rest script = answer_ends results w k _ rest script
@@ -100,8 +124,12 @@ module _ (d : Driver) where
   unfolding taken
   taken_ends (replies.Return ticks v runs) k upcall Noted script =
       then_ends (ended d v (applied ticks runs k).world) (applied ticks runs k) (λ k'. split_commands d script k') (λ k'. commands_end script k')
+  taken_ends (replies.Return ticks v runs) k upcall (Resumes next' base) script =
+      went_ends base (runs_kernel d (next' v) (closed (applied ticks runs k).world)) (applied ticks runs k) (λ k'. split_commands d script k') script (λ k'. commands_end script k')
   taken_ends (replies.Down ticks at depth func args runs) k upcall rest script =
-      down_ends (downcall d (held d) upcall.func may_not at func args depth (applied ticks runs k).world) (applied ticks runs k) upcall rest script
+      let k' : Kernel = applied ticks runs k in
+      let passed : List Wire = map (normal k'.world.memory) args in
+      went_ends (Down at func passed upcall rest) (runs_kernel d (kernel_tree d func passed depth k'.world) k'.world) k' (λ k''. split_commands d script k'') script (λ k''. commands_end script k'')
   taken_ends (replies.Ask ticks at service args shapes bytes runs) k upcall rest script =
       let asked : Asked = record { service = service; at = at; args = args; shapes = shapes; bytes = bytes } in
       service_ends asked (serves d (held d) upcall.func asked (applied ticks runs k).world) (applied ticks runs k) upcall rest script

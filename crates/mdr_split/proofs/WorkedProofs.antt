@@ -12,6 +12,7 @@ use Rattle.mdr_model.specs.User.{allowance, lives_fit}
 use Rattle.mdr_model.specs.Values.{is_same, is_same_view}
 use Rattle.mdr_paths.specs.Paths.{adds, counted, fails, first, is_in as is_among, is_led, leads, round, rounds, visible as found, visible_set}
 use Rattle.mdr_plain.proofs.Computing.{runs}
+use Rattle.mdr_plain.specs.Running.{goes}
 use Rattle.mdr_split.specs.Fits.{fits, fits_result, is_in_below, is_in_fields, is_in_structs, is_named, is_view_of}
 use Rattle.mdr_split.specs.Kernel.{answers, applied, calls, comes_back, first_kernel, next, run_from_pending, split_commands, split_run, taken}
 use Rattle.mdr_split.specs.Legal.{args_fault, fault_of, fits_cell, fits_service, is_ask_place, is_awaited, is_user_place, run_fault, runs_fault, service_fault}
@@ -23,7 +24,7 @@ use Rattle.mdr_watched.specs.Watched.{upcall, watched_of}
 
 unfoldable pub passes : Unit {0}
 unfolding
-    runs element_offsets field_offsets key_of offsets offsets_below offsets_of struct_offsets struct_start
+    runs goes element_offsets field_offsets key_of offsets offsets_below offsets_of struct_offsets struct_start
     extent first_of is_touched length_now views_touched
     all_cells extent_at first_failing graph own_cells root_cells root_extent visible
     adds counted fails first is_among is_led leads round rounds found visible_set

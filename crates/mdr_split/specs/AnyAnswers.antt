@@ -66,8 +66,8 @@ abbrev pub kernel_in : Pending → Kernel
 kernel_in (Over end k) = k
 kernel_in (Waits m k upcall rest script) = k
 
--- whatever the answers are, the messages sent and answered are at most 4 for each tick and 6 for each command that called a function
+-- whatever the answers are, the messages sent and answered are at most 8 for each tick and 6 for each command that called a function
 abbrev pub MessagesAreFew : Type 0
 MessagesAreFew =
     (d : Driver) (script : Bound) (budget : ℕ) (answers : List Reading) → let k : Kernel = kernel_in (split_run d script budget answers).pending in
-    2 * k.exchanges ≤ 4 * k.world.clock.ticks + 6 * k.world.kept.calls
+    2 * k.exchanges ≤ 8 * k.world.clock.ticks + 6 * k.world.kept.calls

@@ -1,11 +1,13 @@
 -- believed
--- The kernel half as a machine over answers: it waits at each message that it sends, judges the answer, and goes on.
-use Rattle.std.specs.Prelude.{ℕ, suc, List, [], ◌∷◌, Option, Some, None, Ok, Err, unwrap_or}
+-- The kernel half as a machine over answers: it waits at each message that it sends, also in the middle of its own code where that calls back, judges the answer, and goes on.
+use Rattle.std.specs.Prelude.{ℕ, suc, List, [], ◌∷◌, map, Option, Some, None, Ok, Err, unwrap_or}
 use Rattle.mdr_core.specs.declared.refusal.RefuseKind.TheVariants as refusal
 use Rattle.mdr_core.specs.declared.stop.StopKind.TheVariants as stop
+use Rattle.mdr_core.specs.Layout.{chosen}
 use Rattle.mdr_extents.specs.Reaching.{visible}
 use Rattle.mdr_meaning.specs.declared.wire.Wire.{Wire}
-use Rattle.mdr_meaning.specs.Tree.{Asked}
+use Rattle.mdr_meaning.specs.Bodies.{started}
+use Rattle.mdr_meaning.specs.Tree.{Asked, Tree}
 use Rattle.mdr_model.specs.declared.command.Command.{Command}
 use Rattle.mdr_model.specs.declared.message.Fault.{Fault}
 use Rattle.mdr_model.specs.declared.message.Message.{Message}
@@ -19,17 +21,21 @@ use Rattle.mdr_model.specs.declared.reply.Reply.TheVariants as replies
 use Rattle.mdr_model.specs.Copies.{agreed_after, put_runs, tells}
 use Rattle.mdr_model.specs.Faults.{fault}
 use Rattle.mdr_model.specs.KernelState.{Reading}
+use Rattle.mdr_model.specs.Memory.{normal}
 use Rattle.mdr_model.specs.ReplyFaults.{reply_of, user_stop}
-use Rattle.mdr_plain.specs.Running.{call, interrupts}
+use Rattle.mdr_plain.specs.Atomic.{is_atomic}
+use Rattle.mdr_plain.specs.Running.{Went, Gave, Calls, all_cells, goes, interrupts}
 use Rattle.mdr_plain.specs.Scripts.{Beginning, Did, Enters, Opens, begin, first_world, returned}
-use Rattle.mdr_plain.specs.World.{World, Ran, Ended, Stopped, Work, advanced, done}
+use Rattle.mdr_plain.specs.Services.{served}
+use Rattle.mdr_plain.specs.Storage.{accesses}
+use Rattle.mdr_plain.specs.World.{World, Ran, Ended, Stopped, Work, advanced, after, done}
 use Rattle.mdr_bound.specs.declared.bound.Bound.{Bound}
 use Rattle.mdr_split.specs.Legal.{fault_of}
 use Rattle.mdr_split.specs.Services.{counted}
-use Rattle.mdr_split.specs.State.{Kernel, Open, Rest, Noted, Pending, Over, Waits}
+use Rattle.mdr_split.specs.State.{Kernel, Open, Base, Commanded, Down, Rest, Noted, Resumes, Pending, Over, Waits}
 use Rattle.mdr_watched.specs.Driver.{Driver, entry_roots, is_user, touched_by}
 use Rattle.mdr_watched.specs.Views.{closed, opened, taken as with_set, top}
-use Rattle.mdr_watched.specs.Watched.{downcall, held, kernel_of, may_not, serves}
+use Rattle.mdr_watched.specs.Watched.{held, kernel_of, returns_to, serves}
 
 -- ---- sending
 
@@ -46,15 +52,15 @@ over end w k = Over end (record k { world = w })
 abbrev pub begins : Driver → (func : ℕ) → (args : List Wire) → World → Work
 begins d f args w = with_set (visible d.program (touched_by d.plan f) w.memory [] (entry_roots d.program f args)) (record { func = f; stmt = 0 }) w (λ set. done (opened set w))
 
--- and the call is told
-abbrev pub called : Driver → (func : ℕ) → (args : List Wire) → Work → Kernel → List Command → Pending
-called d f args (Ended x w) k script =
+-- and the call is told, with the number of functions that were active before it
+abbrev pub called : Driver → (func : ℕ) → (depth : ℕ) → (args : List Wire) → Work → Kernel → Rest → List Command → Pending
+called d f depth args (Ended x w) k rest script =
     let told : Told = tells d.program (top w.views) args k.agreed w.memory in
-    Waits (message.Call f 0 w.clock.rest args told) (sent d w told k) (record { func = f; entered = [] }) Noted script
-called d f args (Stopped kind at w) k script = over (ends.Stop kind at) w k
+    Waits (message.Call f depth w.clock.rest args told) (sent d w told k) (record { func = f; depth = depth; entered = [] }) rest script
+called d f depth args (Stopped kind at w) k rest script = over (ends.Stop kind at) w k
 
-unfoldable pub calls : Driver → (func : ℕ) → (args : List Wire) → World → Kernel → List Command → Pending
-calls d f args w k script = called d f args (begins d f args w) k script
+unfoldable pub calls : Driver → (func : ℕ) → (depth : ℕ) → (args : List Wire) → World → Kernel → Rest → List Command → Pending
+calls d f depth args w k rest script = called d f depth args (begins d f args w) k rest script
 
 -- a downcall came back, and its set was taken anew: the result is told
 unfoldable pub comes_back : Driver → Wire → World → Kernel → Open → Rest → List Command → Pending
@@ -68,21 +74,43 @@ answers d results w k upcall rest script =
     let told : Told = tells d.program [] results k.agreed w.memory in
     Waits (message.Answer results told.deaths told.news) (sent d w told k) upcall rest script
 
--- ---- the run
+-- ---- code of the kernel half
 
--- what follows a command that the kernel half does
+-- a function of the kernel half, with so many active before it
+abbrev pub kernel_tree : Driver → (func : ℕ) → (args : List Wire) → (depth : ℕ) → World → Tree
+kernel_tree d f args depth w = started d.kernel (suc w.clock.rest) f args depth Tree.Idle
+
+-- its code runs, up to where it calls back
+abbrev pub runs_kernel : Driver → Tree → World → Went
+runs_kernel d t w = goes (accesses d.program all_cells) (served d.program) (interrupts (kernel_of d)) t w
+
+-- what follows work that has no result to tell
 abbrev pub then_split : Work → Kernel → (Kernel → Pending) → Pending
 then_split (Ended x w) k go = go (record k { world = w })
 then_split (Stopped kind at w) k go = over (ends.Stop kind at) w k
 
--- a function of the kernel half runs in place
-abbrev pub entered : Driver → (func : ℕ) → (args : List Wire) → World → Work
-entered d f args w = returned (interrupts (kernel_of d)) (call (kernel_of d) (interrupts (kernel_of d)) f args 0 w)
+abbrev pub downcalled : Driver → Ran Wire → Kernel → Open → Rest → List Command → Pending
+downcalled d (Ended v w) k upcall rest script = comes_back d v w k upcall rest script
+downcalled d (Stopped kind at w) k upcall rest script = over (ends.Stop kind at) w k
+
+-- it ended or stopped: its result is noted, where a command called it; or the set of the upcall is taken anew, and the result is told to the user code that called it
+abbrev pub gave : Driver → Base → Ran Wire → Kernel → (Kernel → Pending) → List Command → Pending
+gave d Commanded ran k go script = then_split (returned (interrupts (kernel_of d)) ran) k go
+gave d (Down at f args upcall rest) ran k go script =
+    downcalled d (after ran (λ v w. returns_to d (held d) upcall.func at f args v w)) k upcall rest script
+
+-- or it calls back, where it may wait: an upcall, with its arguments as they are now. What it does with the result comes when that upcall has returned
+abbrev pub went : Driver → Base → Went → Kernel → (Kernel → Pending) → List Command → Pending
+went d base (Gave ran) k go script = gave d base ran k go script
+went d base (Calls at f args depth next w) k go script =
+    chosen (is_atomic w) (over (ends.Stop stop.Atomic (Some at)) w k) (calls d f depth (map (normal w.memory) args) w k (Resumes next base) script)
+
+-- ---- the run
 
 abbrev pub split_by : Beginning → Driver → List Command → Kernel → (Kernel → Pending) → Pending
 split_by (Did work) d script k go = then_split work k go
-split_by (Enters f args w) d script k go = then_split (entered d f args w) k go
-split_by (Opens f args w) d script k go = calls d f args w k script
+split_by (Enters f args w) d script k go = went d Commanded (runs_kernel d (kernel_tree d f args 0 w) w) k go script
+split_by (Opens f args w) d script k go = calls d f 0 args w k Noted script
 
 -- the commands of a script up to the first message
 unfoldable pub split_commands : Driver → List Command → Kernel → Pending
@@ -96,16 +124,14 @@ spent ticks runs w = record w { memory = put_runs runs w.memory; clock = advance
 unfoldable pub applied : ℕ → List Run → Kernel → Kernel
 applied ticks runs k = record k { world = spent ticks runs k.world; agreed = put_runs runs k.agreed }
 
--- the upcall ended: its result is noted, and then the interrupt rule is tried
+-- a command's upcall ended: its result is noted, and then the interrupt rule is tried
 abbrev pub ended : Driver → Wire → World → Work
 ended d v w = returned (interrupts (kernel_of d)) (Ended v (closed w))
 
+-- the innermost upcall ended, and its set is gone: the commands go on, or the code that called it
 abbrev pub continued : Driver → Wire → Kernel → Rest → List Command → Pending
 continued d v k Noted script = then_split (ended d v k.world) k (λ k'. split_commands d script k')
-
-abbrev pub downcalled : Driver → Ran Wire → Kernel → Open → Rest → List Command → Pending
-downcalled d (Ended v w) k upcall rest script = comes_back d v w k upcall rest script
-downcalled d (Stopped kind at w) k upcall rest script = over (ends.Stop kind at) w k
+continued d v k (Resumes next base) script = went d base (runs_kernel d (next v) (closed k.world)) k (λ k'. split_commands d script k') script
 
 -- the objects that were born and those that died are counted
 abbrev pub serviced : Driver → Asked → Ran (List Wire) → Kernel → Open → Rest → List Command → Pending
@@ -116,11 +142,13 @@ serviced d asked (Stopped kind at w) k upcall rest script = over (ends.Stop kind
 abbrev pub refused : Fault → Kernel → Pending
 refused f k = Over (ends.Refused k.exchanges f.kind f.number) k
 
--- what a legal reply does. A function of the kernel half runs in place, where it may not call back, and a service is done, as where there is one memory
+-- what a legal reply does. A function of the kernel half runs, with its arguments as they are now, and a service is done, as where there is one memory
 unfoldable pub taken : Driver → Reply → Kernel → Open → Rest → List Command → Pending
 taken d (replies.Return ticks result runs) k upcall rest script = continued d result (applied ticks runs k) rest script
 taken d (replies.Down ticks at depth func args runs) k upcall rest script =
-    let k' : Kernel = applied ticks runs k in downcalled d (downcall d (held d) upcall.func may_not at func args depth k'.world) k' upcall rest script
+    let k' : Kernel = applied ticks runs k in
+    let passed : List Wire = map (normal k'.world.memory) args in
+    went d (Down at func passed upcall rest) (runs_kernel d (kernel_tree d func passed depth k'.world) k'.world) k' (λ k''. split_commands d script k'') script
 taken d (replies.Ask ticks at service args shapes bytes runs) k upcall rest script =
     let k' : Kernel = applied ticks runs k in
     let asked : Asked = record { service = service; at = at; args = args; shapes = shapes; bytes = bytes } in

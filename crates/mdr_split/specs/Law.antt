@@ -50,12 +50,13 @@ IsHonest d before (m ∷ sent) (a ∷ answers) = (a ≡ user_reply d (read befor
 
 -- ---- the law
 
--- a run that is over ends in the very state in which the watched run ends, so with its outcome; it refuses nothing, and has at most 4 messages for each tick and 6 for each command that called a function: each message sent was answered
+-- a run that is over ends in the very state in which the watched run ends, so with its outcome; it refuses nothing, and has at most 8 messages for each tick and 6 for each command that called a function: each message sent was answered. Where nothing is called back 4 are enough for a tick
 pub record IsWatched (d : Driver) (script : Bound) (budget : ℕ) (end : End) (k : Kernel) : Type 0 where
   pub world : k.world ≡ (watched_of d script budget).world
   pub outcome : outcome_of d.program (finish end k.world) ≡ outcome_of d.program (watched_of d script budget)
   pub own : IsOwn end
-  pub messages : 2 * k.exchanges ≤ 4 * k.world.clock.ticks + 6 * k.world.kept.calls
+  pub messages : 2 * k.exchanges ≤ 8 * k.world.clock.ticks + 6 * k.world.kept.calls
+  pub fewer : CallsNothingBack d.program → 2 * k.exchanges ≤ 4 * k.world.clock.ticks + 6 * k.world.kept.calls
 
 -- whatever honest answers come, and there are some with which the run is over
 pub record IsOneMemory (d : Driver) (script : Bound) (budget : ℕ) : Type 0 where
@@ -69,10 +70,10 @@ pub record IsOneMemory (d : Driver) (script : Bound) (budget : ℕ) : Type 0 whe
       × IsHonest d [] (split_run d script budget (read answers)).sent answers
       × ((split_run d script budget (read answers)).pending ≡ Over end k)
 
--- the law for every sound program that calls nothing back and in which each function has a body, with its plan, every script whose commands fit it and every budget. Where one may call back the kernel half stops: that isn't built, and no source is accepted that does
+-- the law for every sound program in which each function has a body, with its plan, every script whose commands fit it and every budget
 abbrev pub SplitIsOneMemory : Type 0
 SplitIsOneMemory =
-    (program : Program) (plan : Plan) (script : Bound) (budget : ℕ) → IsSound program → CallsNothingBack program → HaveBodies program → IsPlanOf program plan → IsScript program script
+    (program : Program) (plan : Plan) (script : Bound) (budget : ℕ) → IsSound program → HaveBodies program → IsPlanOf program plan → IsScript program script
     → IsOneMemory (driver_of program plan) script budget
 
 -- ---- what the user half knows

@@ -101,13 +101,18 @@ abbrev pub is_true : Option Bool → Bool
 is_true None = false
 is_true (Some b) = b
 
--- user code may call the function
-abbrev pub has_down_stub : Driver → ℕ → Bool
-has_down_stub d f = is_true (slice_get d.plan.down f)
+-- the kernel half has the function's body
+abbrev pub is_kernel_half : Driver → ℕ → Bool
+is_kernel_half d f = is_some (d.kernel.own f)
 
--- a reply that asks for something is awaited as long as the run keeps to 4 messages for each tick and 6 for each command. An honest run never comes to the end of that
+-- user code may call the function: it has a stub for that, and a body that the kernel half can run
+abbrev pub has_down_stub : Driver → ℕ → Bool
+has_down_stub d f = is_true (slice_get d.plan.down f) && is_kernel_half d f
+
+-- a reply that asks for something is awaited as long as the run keeps to 8 messages for each tick and 6 for each command, with two more for each upcall that is open: a callback takes its Call and what ends it. An honest run never comes to the end of that
 unfoldable pub is_awaited : Kernel → (ticks : ℕ) → Bool
-is_awaited k ticks = nat_le (2 * k.exchanges + 2) (4 * (k.world.clock.ticks + min ticks k.world.clock.rest) + 6 * k.world.kept.calls)
+is_awaited k ticks =
+    nat_le (2 * k.exchanges + 2 * length k.world.views) (8 * (k.world.clock.ticks + min ticks k.world.clock.rest) + 6 * k.world.kept.calls)
 
 -- ---- values
 
@@ -120,9 +125,6 @@ result_of None = type.Void
 result_of (Some f) = f.result
 
 -- a function that handles interrupts is of the kernel half
-abbrev pub is_kernel_half : Driver → ℕ → Bool
-is_kernel_half d f = is_some (d.kernel.own f)
-
 abbrev pub names_kernel : Driver → Wire → Bool
 names_kernel d (wire.Fn f) = is_kernel_half d f
 names_kernel d _ = false
@@ -175,7 +177,7 @@ fault_of d k upcall rest (replies.Down ticks at depth func args runs) =
     unless (is_awaited k ticks) refusal.NotAwaited 0
     ∷ ticks_fault k ticks
     ∷ unless (is_user_place d at) refusal.BadPlace 0
-    ∷ unless (nat_lt 0 depth && nat_le depth 255) refusal.BadDepth 0
+    ∷ unless (nat_lt upcall.depth depth && nat_le depth 255) refusal.BadDepth 0
     ∷ unless (has_down_stub d func) refusal.NoStub 0
     ∷ args_fault (fits (kernel_places d k)) 0 (params_of (slice_get d.program.funcs func)) args
     ∷ reply_runs_fault d k runs

@@ -62,7 +62,7 @@ last mark =
     ∷ []
 
 abbrev with_object : Open
-with_object = record { func = 2; entered = 7 ∷ [] }
+with_object = record { func = 2; depth = 0; entered = 7 ∷ [] }
 
 abbrev cell : (serial index : ℕ) → Cell
 cell serial index = record { serial = serial; index = index }

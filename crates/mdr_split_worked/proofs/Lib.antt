@@ -1,3 +1,4 @@
 pub mod Following
 pub mod TimedProofs
 pub mod GraphProofs
+pub mod CallbackProofs

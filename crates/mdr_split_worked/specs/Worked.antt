@@ -11,7 +11,7 @@ use Rattle.mdr_meaning.specs.declared.shape.Shape64.{Shape64}
 use Rattle.mdr_meaning.specs.declared.wire.Wire.{Wire}
 use Rattle.mdr_meaning.specs.declared.wire.Wire.TheVariants as wire
 use Rattle.mdr_meaning.specs.Sides.{Body}
-use Rattle.mdr_meaning.specs.Worked.{add, at_stmt, behind, body, calls as calls_func, field, glob, number, object as object_slot, param, u32, var}
+use Rattle.mdr_meaning.specs.Worked.{add, at_stmt, body, calls as calls_func, field, glob, number, object as object_slot, param, u32, var}
 use Rattle.mdr_model.specs.declared.memory.MemoryBlock.{MemoryBlock}
 use Rattle.mdr_model.specs.declared.message.BirthKind.{BirthKind}
 use Rattle.mdr_model.specs.declared.message.BirthKind.TheVariants.{Static, Heap, Auto}
@@ -288,3 +288,65 @@ timed_copy = block 0 Static 2 (u32_value 0 ∷ []) ∷ block 1 Static 2 (u32_val
 
 abbrev pub KeepsTime : Type 0
 KeepsTime = Passes timed start_and_go timed_sent timed_answers timed_outcome timed_copy
+
+-- ---- callbacks: u32 n; u32 log; void fire(u32 x){kcall(done,x); n=n+1;}
+-- void done(u32 x){log=log+x; writel(x,3);} void go(void){fire(1); fire(2); log=log+n;}   where `done` and `go` are of the user half
+
+abbrev pub fires : Body
+fires = body (param u32 ∷ []) ty.Void (serves 1 15 (Term.Lit (value.Fn 1) ∷ var 0 ∷ []) ∷ sets 2 0 (add (glob 0) (number 1)) ∷ [])
+
+abbrev pub logs : Body
+logs = body (param u32 ∷ []) ty.Void (sets 1 1 (add (glob 1) (var 0)) ∷ serves 2 5 (var 0 ∷ number 3 ∷ []) ∷ [])
+
+abbrev pub fires_twice : Body
+fires_twice = body [] ty.Void (calls_func 1 0 (number 1 ∷ []) ∷ calls_func 2 0 (number 2 ∷ []) ∷ sets 3 1 (add (glob 1) (glob 0)) ∷ [])
+
+abbrev pub twice : Driver
+twice = with_stubs (true ∷ false ∷ false ∷ [])
+    (cut
+    (record hitting {
+      globals = of_type u32 (zero_u32 ∷ []) ∷ of_type u32 (zero_u32 ∷ []) ∷ [];
+      funcs = record (named (codes "fire")) { params = param_of u32 Single ∷ [] } ∷ record (named (codes "done")) { params = param_of u32 Single ∷ [] } ∷ named (codes "go") ∷ [];
+      bodies = fires ∷ logs ∷ fires_twice ∷ [];
+    })
+    (false ∷ true ∷ true ∷ [])
+    ([] ∷ (key.Global 1 ∷ []) ∷ (key.Global 0 ∷ key.Global 1 ∷ []) ∷ []))
+
+abbrev pub call_go : Bound
+call_go = just (calls 2 ∷ [])
+
+-- what `done` may touch
+abbrev pub log_seen : List SetRun
+log_seen = cells 1 0 1 ∷ []
+
+-- two functions are active where `fire` calls back. Of `n`, which `done` may not touch, the Back tells
+abbrev pub twice_sent : List Message
+twice_sent =
+    message.Call 2 0 1000000 [] (told [] [] both_seen [])
+    ∷ message.Call 1 2 999998 (u32_value 1 ∷ []) (told [] [] log_seen [])
+    ∷ message.Answer [] [] []
+    ∷ message.Back 999995 wire.NoValue (told [] [] both_seen (holds 0 0 (u32_value 1) ∷ []))
+    ∷ message.Call 1 2 999993 (u32_value 2 ∷ []) (told [] [] log_seen [])
+    ∷ message.Answer [] [] []
+    ∷ message.Back 999990 wire.NoValue (told [] [] both_seen (holds 0 0 (u32_value 2) ∷ []))
+    ∷ []
+
+abbrev pub twice_answers : List Message
+twice_answers =
+    message.Down 1 (at_stmt 2 1) 1 0 (u32_value 1 ∷ []) []
+    ∷ message.Ask 2 (at_stmt 1 2) 5 (u32_value 1 ∷ u32_value 3 ∷ []) [] [] (holds 1 0 (u32_value 1) ∷ [])
+    ∷ message.Return 0 wire.NoValue []
+    ∷ message.Down 1 (at_stmt 2 2) 1 0 (u32_value 2 ∷ []) []
+    ∷ message.Ask 2 (at_stmt 1 2) 5 (u32_value 2 ∷ u32_value 3 ∷ []) [] [] (holds 1 0 (u32_value 3) ∷ [])
+    ∷ message.Return 0 wire.NoValue []
+    ∷ message.Return 1 wire.NoValue (holds 1 0 (u32_value 5) ∷ [])
+    ∷ []
+
+abbrev pub twice_outcome : Outcome
+twice_outcome = outcome (began (codes "go") [] ∷ happened.Wrote 3 1 ∷ happened.Wrote 3 2 ∷ returned ∷ []) ends.Ok 11 2 (word 2 ∷ word 5 ∷ [])
+
+abbrev pub twice_copy : Memory
+twice_copy = block 0 Static 2 (u32_value 2 ∷ []) ∷ block 1 Static 2 (u32_value 5 ∷ []) ∷ []
+
+abbrev pub CallsBackTwice : Type 0
+CallsBackTwice = Passes twice call_go twice_sent twice_answers twice_outcome twice_copy

@@ -1,6 +1,6 @@
 // Small drivers worked out, each as a function that does nothing.
 
-ghost use Rattle.mdr_split_worked.specs.Worked.{KeepsTime, TellsGraph};
+ghost use Rattle.mdr_split_worked.specs.Worked.{CallsBackTwice, KeepsTime, TellsGraph};
 
 /// The messages of a driver whose nodes point to each other, of which kernel code frees one while user code runs, and
 /// another block that user code may not look at; user code has an object, lends it to kernel code, and allocates.
@@ -12,4 +12,10 @@ pub fn graphs_are_told()
 /// waits for the end of that, also where user code calls the kernel half meanwhile.
 pub fn devices_keep_time()
     ensures { KeepsTime }
+{}
+
+/// The messages of a driver whose kernel code calls user code back, in the middle of each of two downcalls: an upcall within
+/// the one that waits, deeper than the downcall, with a set of its own; and then the downcall's result.
+pub fn callbacks_are_told()
+    ensures { CallsBackTwice }
 {}

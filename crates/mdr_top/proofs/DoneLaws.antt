@@ -283,7 +283,8 @@ module _ (words : List (List ℕ)) (before after : Outside) (s : Status) (honest
         text = text;
         printed = adds;
         told = subst (λ (o : Outcome). IsTold recipe g.source.program after.sides.far.exchanges o s text) m.outcome g.over.run.told;
-        messages = subst (λ (o : Outcome). 2 * length after.sides.far.exchanges ≤ 4 * o.ticks + 6 * (watched g.source.program g.over.run.run.plan g.over.script budget).world.kept.calls) m.outcome m.messages;
+        messages = subst (λ (o : Outcome). 2 * length after.sides.far.exchanges ≤ 8 * o.ticks + 6 * (watched g.source.program g.over.run.run.plan g.over.script budget).world.kept.calls) m.outcome m.messages;
+        fewer = λ nothing. subst (λ (o : Outcome). 2 * length after.sides.far.exchanges ≤ 4 * o.ticks + 6 * (watched g.source.program g.over.run.run.plan g.over.script budget).world.kept.calls) m.outcome (m.fewer nothing);
       }
 
   done_made : (text : List ℕ) → IsWritten before.out after.out text → (recipe : Recipe) → command_of words ≡ Some (Generate recipe) → Done words before.sides after.sides s text → MadeMeansBy words before after s

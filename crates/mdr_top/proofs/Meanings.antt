@@ -120,7 +120,8 @@ module _ (law : RunIsMeaning) (taken : TextsOfSourcesAreTaken) (bytes lines : Li
         meaning = record {
           reported = subst (λ (o : Outcome). Reported source.program o s text) m.outcome g.reported;
           own = subst (λ (o : Outcome). IsOwn o.end) m.outcome m.own;
-          messages = subst (λ (o : Outcome). 2 * length es ≤ 4 * o.ticks + 6 * (watched source.program plan script ticks).world.kept.calls) m.outcome m.messages;
+          messages = subst (λ (o : Outcome). 2 * length es ≤ 8 * o.ticks + 6 * (watched source.program plan script ticks).world.kept.calls) m.outcome m.messages;
+          fewer = λ nothing. subst (λ (o : Outcome). 2 * length es ≤ 4 * o.ticks + 6 * (watched source.program plan script ticks).world.kept.calls) m.outcome (m.fewer nothing);
         };
         world = m.world;
       })

@@ -1,6 +1,7 @@
 -- protocol
 -- What is printed of a driver and a script that are made from a seed.
 use Rattle.std.specs.Prelude.{◌≡◌, ℕ, ◌+◌, ◌*◌, ◌≤◌, ◌⊎◌, List, length, Some}
+use Rattle.mdr_core.specs.Backs.{CallsNothingBack}
 use Rattle.mdr_core.specs.declared.plan.Plan.{Plan}
 use Rattle.mdr_cut.specs.declared.texts.Texts.{Texts}
 use Rattle.mdr_due.specs.declared.status.Status.{Status}
@@ -35,7 +36,8 @@ pub record MadeMeansBy (words : List (List ℕ)) (before after : Outside) (s : S
   pub text : List ℕ
   pub printed : IsWritten before.out after.out text
   pub told : IsTold recipe source.program after.sides.far.exchanges (meant source.program plan script budget) s text
-  pub messages : 2 * length after.sides.far.exchanges ≤ 4 * (meant source.program plan script budget).ticks + 6 * (watched source.program plan script budget).world.kept.calls
+  pub messages : 2 * length after.sides.far.exchanges ≤ 8 * (meant source.program plan script budget).ticks + 6 * (watched source.program plan script budget).world.kept.calls
+  pub fewer : CallsNothingBack source.program → 2 * length after.sides.far.exchanges ≤ 4 * (meant source.program plan script budget).ticks + 6 * (watched source.program plan script budget).world.kept.calls
 
 -- so it is over an honest far side, where the run ends by itself or stops
 abbrev pub MadeMeans : List (List ℕ) → (before after : Outside) → Status → Type 0

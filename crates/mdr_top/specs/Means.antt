@@ -1,6 +1,7 @@
 -- believed
 -- What a run over an honest far side is reported as.
 use Rattle.std.specs.Prelude.{◌≡◌, ◌≢◌, ℕ, ◌+◌, ◌*◌, ◌≤◌, ◌⊎◌, true, List, length, Option, Some}
+use Rattle.mdr_core.specs.Backs.{CallsNothingBack}
 use Rattle.mdr_core.specs.declared.plan.Plan.{Plan}
 use Rattle.mdr_core.specs.declared.program.Program.{Program}
 use Rattle.mdr_cut.specs.declared.texts.Texts.{Texts}
@@ -34,11 +35,12 @@ use Rattle.mdr_watched.specs.Watched.{watched}
 abbrev pub meant : Program → Plan → Bound → (ticks : ℕ) → Outcome
 meant program plan script ticks = outcome_of program (watched program plan script ticks)
 
--- its status and report, within 4 messages for each tick and 6 for each command that called a function
+-- its status and report, within 8 messages for each tick and 6 for each command that called a function, and within 4 for each tick where nothing is called back
 pub record IsMeaning (program : Program) (plan : Plan) (script : Bound) (ticks : ℕ) (es : List Exchange) (s : Status) (text : List ℕ) : Type 0 where
   pub reported : Reported program (meant program plan script ticks) s text
   pub own : IsOwn (meant program plan script ticks).end
-  pub messages : 2 * length es ≤ 4 * (meant program plan script ticks).ticks + 6 * (watched program plan script ticks).world.kept.calls
+  pub messages : 2 * length es ≤ 8 * (meant program plan script ticks).ticks + 6 * (watched program plan script ticks).world.kept.calls
+  pub fewer : CallsNothingBack program → 2 * length es ≤ 4 * (meant program plan script ticks).ticks + 6 * (watched program plan script ticks).world.kept.calls
 
 -- the manner of that run
 abbrev pub while_watched : (ticks : ℕ) → Manner

@@ -4,3 +4,5 @@ mod Ends
 mod Taking
 mod Messages
 mod Legal
+mod Behind
+mod Resuming

@@ -1,12 +1,11 @@
 // The next state of a run after an answer, or after none.
 
-ghost use Rattle.std.specs.Prelude.{◌≡◌, drop, IfOk};
+ghost use Rattle.std.specs.Prelude.{◌≡◌, IfOk};
 ghost use Rattle.mdr_core.specs.Sound.{IsSound};
 ghost use Rattle.mdr_split.specs.Kernel.{next};
-ghost use Rattle.mdr_split.specs.State.{Noted};
 ghost use Rattle.mdr_watch.specs.Watching.{IsFit, driver_in};
-ghost use Rattle.mdr_turns.specs.Coming.{ComesTo, IsLeft, KeptFor};
-ghost use Rattle.mdr_turns.specs.States.{StandsFor, begun_of, kernel_of, open_of};
+ghost use Rattle.mdr_turns.specs.Coming.{ComesTo, IsLeft, KeptFor, from_waiting};
+ghost use Rattle.mdr_turns.specs.States.{StandsFor, kernel_of};
 
 use crate::ending::left;
 use crate::judged::{answered, refused};
@@ -32,7 +31,7 @@ pub fn next<'a>(
     requires fit { IsFit watch }
     requires stands { StandsFor watch waiting }
     ensures kept { IfOk result (KeptFor watch.entry) }
-    ensures comes { IfOk result (λ p. ComesTo p script.now (next (driver_in watch.entry) reading (kernel_of waiting.entry) (open_of waiting.entry) Noted (drop (begun_of waiting.entry) script.now))) }
+    ensures comes { IfOk result (λ p. ComesTo (driver_in watch.entry) p script.now (from_waiting (driver_in watch.entry) waiting.entry script.now (next (driver_in watch.entry) reading))) }
 {
     match reading {
         Ok(message) => answered(alloc, watch, script, waiting, reply_of(message)),
@@ -45,9 +44,15 @@ pub fn unanswered<'a>(waiting: Waiting<'a>) -> World<'a>
     ensures left { IsLeft (kernel_of waiting.entry).world result.world }
     ensures program { result.program ≡ waiting.entry.seen.guarded.program }
 {
-    let Waiting { seen, ledger, open } = waiting;
+    let Waiting {
+        seen,
+        ledger,
+        open,
+        behind,
+    } = waiting;
     drop(ledger);
     drop(open);
+    drop(behind);
     let Seen {
         guarded,
         memory,

@@ -40,17 +40,20 @@ pub(crate) fn applied<'a>(active: Active<'a>, ticks: u64, runs: &[Run]) -> Activ
     ensures is { kernel_in result ≡ applied ticks runs.now (kernel_in active.entry) }
     ensures contained { (d : AnyDriver) → reply_runs_fault d (kernel_in active.entry) runs.now ≡ None → ChangesVisible d (kernel_in active.entry) (kernel_in result) }
     ensures open { result.open ≡ active.entry.open }
+    ensures behind { result.behind ≡ active.entry.behind }
     ensures kept { (watch : AnyWatch) → IsActive watch active.entry → IsActive watch result }
 {
     let Active {
         guarded,
         ledger,
         open,
+        behind,
     } = active;
     let left = apply(guarded, ticks, runs);
     Active {
         guarded: left,
         ledger: agreed_applied(ledger, runs),
         open,
+        behind,
     }
 }

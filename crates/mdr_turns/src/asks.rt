@@ -5,11 +5,9 @@ ghost use Rattle.mdr_core.specs.Sound.{IsSound};
 ghost use Rattle.mdr_events.specs.Events.{asked_as};
 ghost use Rattle.mdr_events.specs.Values.{wires_of};
 ghost use Rattle.mdr_meaning.specs.Lives.{asked_for};
-ghost use Rattle.mdr_plain.specs.World.{Ended};
-ghost use Rattle.mdr_split.specs.Kernel.{serviced};
 ghost use Rattle.mdr_split.specs.Services.{counted};
 ghost use Rattle.mdr_watch.specs.Watching.{driver_in};
-ghost use Rattle.mdr_turns.specs.Coming.{ComesAlways, ActiveGoesOn, KeptFor, OfEachAsked, asks};
+ghost use Rattle.mdr_turns.specs.Coming.{ComesAlways, IsServed, KeptFor, OfEachAsked, asks};
 ghost use Rattle.mdr_turns.specs.States.{IsActive, upcall_of};
 
 use crate::ending::over_in;
@@ -35,7 +33,6 @@ fn results_of(
 ) -> Result<Items<Wire>, OutOfMemory>
     ensures wires { IfOk result (λ ws. ws ≡ wires_of results.now) }
     ensures counted { IfOk result (λ _. OfEachAsked service args.now (λ asked. upcall_of upcall.new ≡ counted asked (wires_of results.now) (upcall_of upcall.old))) }
-    ensures done { IfOk result (λ _. upcall.new.done ≡ upcall.old.done) }
 {
     let wires = wires_of(alloc, results)?;
     let now = entered_after(
@@ -60,7 +57,7 @@ fn answered<'a>(
 ) -> Result<Pending<'a>, OutOfMemory>
     requires active { IsActive watch active }
     ensures kept { IfOk result (KeptFor watch.entry) }
-    ensures comes { IfOk result (λ p. OfEachAsked service args.now (λ q. ActiveGoesOn p active.entry (serviced (driver_in watch.entry) q (Ended (wires_of results.now) active.entry.guarded.world)))) }
+    ensures comes { IfOk result (λ p. OfEachAsked service args.now (λ q. IsServed (driver_in watch.entry) p active.entry q (wires_of results.now))) }
 {
     let mut active = active;
     match results_of(alloc, service, args, results, &mut active.open) {
@@ -84,7 +81,7 @@ fn served<'a>(
     requires active { IsActive watch active }
     requires args { wires_of asked.now.args ≡ args.now }
     ensures kept { IfOk result (KeptFor watch.entry) }
-    ensures comes { IfOk result (λ p. ComesAlways p (asks (driver_in watch.entry) active.entry (asked_as asked.now))) }
+    ensures comes { IfOk result (λ p. ComesAlways (driver_in watch.entry) p (asks (driver_in watch.entry) active.entry (asked_as asked.now))) }
 {
     let mut active = active;
     let upcall = Upcall {
@@ -122,7 +119,7 @@ pub(crate) fn asks<'a>(
     requires sound { IsSound watch.program.now }
     requires active { IsActive watch active }
     ensures kept { IfOk result (KeptFor watch.entry) }
-    ensures comes { IfOk result (λ p. ComesAlways p (asks (driver_in watch.entry) active.entry (asked_for service at args.now shapes bytes))) }
+    ensures comes { IfOk result (λ p. ComesAlways (driver_in watch.entry) p (asks (driver_in watch.entry) active.entry (asked_for service at args.now shapes bytes))) }
 {
     match given(alloc, &active.guarded, args) {
         Ok(values) => {

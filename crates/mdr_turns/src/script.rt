@@ -41,7 +41,7 @@ pub(crate) fn do_commands<'a>(
     requires fit { IsFit watch }
     requires between { IsBetween watch between }
     ensures kept { IfOk result (KeptFor watch.entry) }
-    ensures comes { IfOk result (λ p. ComesTo p script.now (split_commands (driver_in watch.entry) (drop from script.now) (kernel_at between.entry))) }
+    ensures comes { IfOk result (λ p. ComesTo (driver_in watch.entry) p script.now (split_commands (driver_in watch.entry) (drop from script.now) (kernel_at between.entry))) }
 {
     let mut between = between;
     for i in from..script.len() {
@@ -80,7 +80,7 @@ pub fn begun<'a>(
     requires same { world.program ≡ watch.program.now }
     requires alone { world.world.views ≡ [] }
     ensures kept { IfOk result (KeptFor watch.entry) }
-    ensures comes { IfOk result (λ r. ComesTo r script.now (split_commands (driver_in watch.entry) script.now (beginning world.entry.world))) }
+    ensures comes { IfOk result (λ r. ComesTo (driver_in watch.entry) r script.now (split_commands (driver_in watch.entry) script.now (beginning world.entry.world))) }
 {
     match first_ledger(alloc, watch, &world) {
         Ok(ledger) => {

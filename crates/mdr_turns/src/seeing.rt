@@ -17,22 +17,39 @@ fn beside<'a>(active: Active<'a>, moment: Moment) -> Waiting<'a>
     ensures same { result.seen.guarded ≡ active.entry.guarded }
     ensures ledger { result.ledger ≡ active.entry.ledger }
     ensures open { result.open ≡ active.entry.open }
+    ensures behind { result.behind ≡ active.entry.behind }
     ensures seen { IsSeen result.seen }
 {
     let Active {
         guarded,
         ledger,
         open,
+        behind,
     } = active;
     let Moment { memory, view } = moment;
-    let Counts { ticks, rest, calls } = counts_of(&guarded);
+    let Counts {
+        ticks,
+        rest,
+        calls,
+        below,
+    } = counts_of(&guarded);
     let seen = Seen {
         guarded,
         memory,
         view,
-        tally: Tally { ticks, rest, calls },
+        tally: Tally {
+            ticks,
+            rest,
+            calls,
+            below,
+        },
     };
-    Waiting { seen, ledger, open }
+    Waiting {
+        seen,
+        ledger,
+        open,
+        behind,
+    }
 }
 
 /// Takes what messages tell of the state.
@@ -40,6 +57,7 @@ pub(crate) fn seen<'a>(alloc: Global, active: Active<'a>) -> Result<Waiting<'a>,
     ensures same { IfOk result (λ w. w.seen.guarded ≡ active.entry.guarded) }
     ensures ledger { IfOk result (λ w. w.ledger ≡ active.entry.ledger) }
     ensures open { IfOk result (λ w. w.open ≡ active.entry.open) }
+    ensures behind { IfOk result (λ w. w.behind ≡ active.entry.behind) }
     ensures stands { IfOk result (λ w. (watch : AnyWatch) → IsActive watch active.entry → StandsFor watch w) }
 {
     match moment_of(alloc, &active.guarded) {

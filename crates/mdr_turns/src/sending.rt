@@ -6,19 +6,18 @@ ghost use Rattle.mdr_meaning.specs.Values.{wire_of};
 ghost use Rattle.mdr_model.specs.declared.message.Message.TheVariants as message;
 ghost use Rattle.mdr_model.specs.Copies.{tells};
 ghost use Rattle.mdr_plain.specs.World.{done};
-ghost use Rattle.mdr_slice.specs.Calls.{names_of};
-ghost use Rattle.mdr_split.specs.Kernel.{answers, called, comes_back};
+ghost use Rattle.mdr_split.specs.Kernel.{answers, comes_back};
 ghost use Rattle.mdr_watch.specs.Watching.{driver_in};
-ghost use Rattle.mdr_turns.specs.Coming.{ComesWith, ActiveGoesOn, WaitingGoesOn, KeptFor};
-ghost use Rattle.mdr_turns.specs.States.{IsActive, StandsFor, begins, begun_of, sent_with, told_by, told_unseen, upcall_of};
+ghost use Rattle.mdr_turns.specs.Coming.{ActiveGoesOn, WaitingGoesOn, KeptFor, TellsCall};
+ghost use Rattle.mdr_turns.specs.States.{IsActive, StandsFor, begins, call_of, sent_with, told_by, told_unseen, upcall_of};
 
 use crate::seeing::seen;
-use crate::state::{Active, Ledger, Open, Pending, Seen, Waiting};
+use crate::state::{Active, Callee, Ledger, Pending, Seen, Waiting};
 use mdr_copy::{RisingBlocks, tells, wire_of};
 use mdr_core::{Items, Limit, OutOfMemory, Program, Value, below};
 use mdr_kernel_memory::wires_of;
 use mdr_model::{Cell, Message, Told, Wire};
-use mdr_watch::{Guarded, Watch};
+use mdr_watch::Watch;
 use std::alloc::Global;
 
 /// A message with these values is told, and counted.
@@ -44,25 +43,24 @@ fn tell(
 
 // ---- an upcall
 
-/// The message of an upcall with these arguments.
+/// The message of an upcall.
 fn call_message(
     alloc: Global,
     program: &Program,
-    func: u32,
-    args: &[Value],
+    callee: Callee,
     seen: &Seen,
     ledger: &mut Ledger,
 ) -> Result<Message, OutOfMemory>
-    ensures is { IfOk result (λ m. m ≡ message.Call func 0 seen.now.tally.rest (wires_of args.now) (told_by program.now seen.now (wires_of args.now) ledger.old)) }
-    ensures kept { IfOk result (λ m. ledger.new ≡ sent_with program.now (told_by program.now seen.now (wires_of args.now) ledger.old) ledger.old) }
+    ensures is { IfOk result (λ m. m ≡ call_of program.now callee.entry seen.now ledger.old) }
+    ensures kept { IfOk result (λ m. ledger.new ≡ sent_with program.now (told_by program.now seen.now (wires_of callee.entry.args.now) ledger.old) ledger.old) }
 {
-    let args = wires_of(alloc, args)?;
+    let args = wires_of(alloc, callee.args)?;
     let view = seen.view.as_slice();
     let memory = &seen.memory;
     let told = tell(alloc, program, view, memory, args.as_slice(), ledger)?;
     Ok(Message::Call {
-        func,
-        depth: 0,
+        func: callee.func,
+        depth: callee.depth,
         rest: seen.tally.rest,
         args,
         told,
@@ -73,25 +71,17 @@ fn call_message(
 fn call_sent<'a>(
     alloc: Global,
     watch: Watch<'a>,
-    func: u32,
-    args: &[Value],
+    callee: Callee,
     waiting: Waiting<'a>,
 ) -> Result<Pending<'a>, OutOfMemory>
     requires stands { StandsFor watch waiting }
-    requires begins { upcall_of waiting.open ≡ begins func }
+    requires begins { upcall_of waiting.open ≡ begins callee.func callee.depth }
     ensures kept { IfOk result (KeptFor watch.entry) }
-    ensures comes { IfOk result (λ p. ComesWith p waiting.entry.ledger (begun_of waiting.entry) (called (driver_in watch.entry) func (wires_of args.now) (done waiting.entry.seen.guarded.world))) }
+    ensures comes { IfOk result (λ p. TellsCall (driver_in watch.entry) p callee.entry (done waiting.entry.seen.guarded.world) waiting.entry.ledger waiting.entry.behind) }
 {
     let mut waiting = waiting;
     let lent = &mut waiting;
-    match call_message(
-        alloc,
-        watch.program,
-        func,
-        args,
-        &lent.seen,
-        &mut lent.ledger,
-    ) {
+    match call_message(alloc, watch.program, callee, &lent.seen, &mut lent.ledger) {
         Ok(message) => Ok(Pending::Waits(message, waiting)),
         Err(error) => {
             drop(waiting);
@@ -100,33 +90,20 @@ fn call_sent<'a>(
     }
 }
 
-/// An upcall with these arguments is told, whose set was taken.
+/// An upcall is told that is active, and in which nothing was done yet.
 pub(crate) fn call_told<'a>(
     alloc: Global,
     watch: Watch<'a>,
-    func: u32,
-    args: &[Value],
-    guarded: Guarded<'a>,
-    ledger: Ledger,
-    begun: usize,
+    callee: Callee,
+    active: Active<'a>,
 ) -> Result<Pending<'a>, OutOfMemory>
-    requires same { guarded.program ≡ watch.program.now }
-    requires passes { ledger.passes ≡ names_of watch.program.now }
+    requires active { IsActive watch active }
+    requires begins { upcall_of active.open ≡ begins callee.func callee.depth }
     ensures kept { IfOk result (KeptFor watch.entry) }
-    ensures comes { IfOk result (λ p. ComesWith p ledger begun (called (driver_in watch.entry) func (wires_of args.now) (done guarded.entry.world))) }
+    ensures comes { IfOk result (λ p. TellsCall (driver_in watch.entry) p callee.entry (done active.entry.guarded.world) active.entry.ledger active.entry.behind) }
 {
-    let open = Open {
-        func,
-        entered: Items::new(alloc),
-        done: begun,
-    };
-    let active = Active {
-        guarded,
-        ledger,
-        open,
-    };
     let waiting = seen(alloc, active)?;
-    call_sent(alloc, watch, func, args, waiting)
+    call_sent(alloc, watch, callee, waiting)
 }
 
 // ---- the result of a downcall
@@ -161,7 +138,7 @@ fn back_sent<'a>(
 ) -> Result<Pending<'a>, OutOfMemory>
     requires stands { StandsFor watch waiting }
     ensures kept { IfOk result (KeptFor watch.entry) }
-    ensures comes { IfOk result (λ p. WaitingGoesOn p waiting.entry (comes_back (driver_in watch.entry) value waiting.entry.seen.guarded.world)) }
+    ensures comes { IfOk result (λ p. WaitingGoesOn (driver_in watch.entry) p waiting.entry (comes_back (driver_in watch.entry) value waiting.entry.seen.guarded.world)) }
 {
     let mut waiting = waiting;
     let lent = &mut waiting;
@@ -183,7 +160,7 @@ pub(crate) fn back_told<'a>(
 ) -> Result<Pending<'a>, OutOfMemory>
     requires active { IsActive watch active }
     ensures kept { IfOk result (KeptFor watch.entry) }
-    ensures comes { IfOk result (λ p. ActiveGoesOn p active.entry (comes_back (driver_in watch.entry) (wire_of value) active.entry.guarded.world)) }
+    ensures comes { IfOk result (λ p. ActiveGoesOn (driver_in watch.entry) p active.entry (comes_back (driver_in watch.entry) (wire_of value) active.entry.guarded.world)) }
 {
     let waiting = seen(alloc, active)?;
     back_sent(alloc, watch, wire_of(value), waiting)
@@ -220,7 +197,7 @@ fn answer_sent<'a>(
 ) -> Result<Pending<'a>, OutOfMemory>
     requires stands { StandsFor watch waiting }
     ensures kept { IfOk result (KeptFor watch.entry) }
-    ensures comes { IfOk result (λ p. WaitingGoesOn p waiting.entry (answers (driver_in watch.entry) results waiting.entry.seen.guarded.world)) }
+    ensures comes { IfOk result (λ p. WaitingGoesOn (driver_in watch.entry) p waiting.entry (answers (driver_in watch.entry) results waiting.entry.seen.guarded.world)) }
 {
     let mut waiting = waiting;
     let lent = &mut waiting;
@@ -242,7 +219,7 @@ pub(crate) fn answer_told<'a>(
 ) -> Result<Pending<'a>, OutOfMemory>
     requires active { IsActive watch active }
     ensures kept { IfOk result (KeptFor watch.entry) }
-    ensures comes { IfOk result (λ p. ActiveGoesOn p active.entry (answers (driver_in watch.entry) results active.entry.guarded.world)) }
+    ensures comes { IfOk result (λ p. ActiveGoesOn (driver_in watch.entry) p active.entry (answers (driver_in watch.entry) results active.entry.guarded.world)) }
 {
     match seen(alloc, active) {
         Ok(waiting) => answer_sent(alloc, watch, results, waiting),

@@ -1,6 +1,6 @@
 -- Sets that are taken, that grow and that go.
 use Rattle.std.proofs.Common.{◌≡◌, ℕ, ◌<◌, true, ◌||◌, ◌⊎◌, inl, inr, List, [], ◌∷◌, ◌++◌, Some, None, Option, Ok, length, refl, sym, ◌∙◌, ap}
-use Rattle.std.specs.Prelude.{filter, is_some}
+use Rattle.std.specs.Prelude.{filter, is_some, map}
 use Rattle.std.proofs.lemmas.Bool.{and_parts, or_cases}
 use Rattle.mdr_core.specs.declared.plan.Key.{Key}
 use Rattle.mdr_core.specs.declared.program.Program.{Program}
@@ -23,16 +23,22 @@ use Rattle.mdr_watched.proofs.Living.{all_living, is_living, live_and, living_bo
 
 -- ---- the world's views
 
-opens : (set : List Cell) (w : World) → w.views ≡ [] → AreLive w.memory set → opened set w ≡ viewed set (opened [] w)
+opens : (set : List Cell) (w : World) → w.views ≡ [] → AreLive w.memory set → opened set w ≡ viewed (set ∷ []) (opened [] w)
 opens set w none live =
     let e : living w.memory set ≡ set = all_living w.memory set live in
     λ i. record w { views = sym e i ∷ none i }
 
-closes : (set : List Cell) (w : World) → w.views ≡ [] → closed (viewed set (opened [] w)) ≡ w
+closes : (set : List Cell) (w : World) → w.views ≡ [] → closed (viewed (set ∷ []) (opened [] w)) ≡ w
 closes set w none = λ i. record w { views = sym none i }
 
-pub renews : (old set : List Cell) (w : World) → AreLive w.memory set → renewed set (viewed old w) ≡ viewed set w
-renews old set w live = let e : living w.memory set ≡ set = all_living w.memory set live in λ i. record w { views = sym e i ∷ [] }
+opens_over : (set : List Cell) (outer : List (List Cell)) (w : World) → AreLive w.memory set → opened set (viewed outer w) ≡ viewed (set ∷ outer) w
+opens_over set outer w live = let e : living w.memory set ≡ set = all_living w.memory set live in λ i. record w { views = sym e i ∷ map (living w.memory) outer }
+
+closes_over : (set : List Cell) (outer : List (List Cell)) (w : World) → closed (viewed (set ∷ outer) w) ≡ viewed outer w
+closes_over set outer w = refl
+
+pub renews : (old set : List Cell) (outer : List (List Cell)) (w : World) → AreLive w.memory set → renewed set (viewed (old ∷ outer) w) ≡ viewed (set ∷ outer) w
+renews old set outer w live = let e : living w.memory set ≡ set = all_living w.memory set live in λ i. record w { views = sym e i ∷ map (living w.memory) outer }
 
 -- ---- sets that are taken and that grow are of what lives
 
@@ -60,10 +66,11 @@ ordered_kept = record {
 new_live : (program : Program) (touched : List Key) (next : ℕ) (w : World) → IsOrdered w → AreLive w.memory (new_cells program touched next w.memory)
 new_live program touched next w o = (order_kept_inside.grows program touched next (without_views w) (in_order w o)).live.0
 
-pub gains : (program : Program) (touched : List Key) (next : ℕ) (set : List Cell) (w : World) → IsOrdered w → gained program touched next (viewed set w) ≡ viewed (set ++ new_cells program touched next w.memory) w
-gains program touched next set w o =
+pub gains : (program : Program) (touched : List Key) (next : ℕ) (set : List Cell) (outer : List (List Cell)) (w : World) → IsOrdered w
+    → gained program touched next (viewed (set ∷ outer) w) ≡ viewed ((set ++ new_cells program touched next w.memory) ∷ outer) w
+gains program touched next set outer w o =
     let e : living w.memory (set ++ new_cells program touched next w.memory) ≡ living w.memory set ++ new_cells program touched next w.memory = living_both w.memory set (new_cells program touched next w.memory) (new_live program touched next w o) in
-    λ i. record w { views = sym e i ∷ [] }
+    λ i. record w { views = sym e i ∷ map (living w.memory) outer }
 
 older : (set : List Cell) (w : World) → IsOrdered w → AreLive w.memory set → IsOlder set w
 older set w o live = λ c i. o.below c.serial (live c i)
@@ -106,6 +113,8 @@ pub sets_are_viewed : SetsAreViewed
 sets_are_viewed = record {
   opens = opens;
   closes = closes;
+  opens_over = opens_over;
+  closes_over = closes_over;
   renews = renews;
   gains = gains;
   known = λ program touched m set roots. known program touched m set roots;

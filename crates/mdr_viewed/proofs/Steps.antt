@@ -1,4 +1,4 @@
--- Births, deaths, accesses and services, with a set in the world and beside it.
+-- Births, deaths, accesses and services, with sets in the world and beside it.
 use Rattle.std.proofs.Common.{◌≡◌, ℕ, zero, suc, ◌+◌, ◌<◌, ◌≤◌, Bool, true, false, ◌&&◌, ◌||◌, List, [], ◌∷◌, ◌++◌, Option, Some, None, Result, Ok, Err, refl, sym, ◌∙◌, ap, arith}
 use Rattle.std.specs.Prelude.{map, nat_lt}
 use Rattle.std.specs.List.{list_all}
@@ -31,26 +31,31 @@ use Rattle.mdr_plain.specs.World.{World, left}
 use Rattle.mdr_watched.proofs.KeepLaws.{IsKept, births_keep, deaths_keep, served_keeps}
 use Rattle.mdr_watched.specs.Views.{living}
 use Rattle.mdr_viewed.specs.Laws.{AccessesAreViewed, AgreeOn, BirthsAreViewed, ServicesAreViewed}
-use Rattle.mdr_viewed.specs.Viewed.{HasUpcall, IsOlder, TouchAlike, viewed, viewed_born, viewed_if, viewing}
+use Rattle.mdr_viewed.specs.Viewed.{AreOlder, HasUpcall, IsOlder, TouchAlike, viewed, viewed_born, viewed_if, viewing}
 use Rattle.mdr_watched.proofs.Living.{births_grow, is_living, live_and, living_born, living_killed, living_put}
 
 -- ---- what is kept
 
--- a set is beside a world in which an upcall is open
-pub record IsBeside (set : List Cell) (w : World) : Type 0 where
+-- sets are beside a world in which an upcall is open
+pub record IsBeside (sets : List (List Cell)) (w : World) : Type 0 where
   pub upcall : HasUpcall w
-  pub older : IsOlder set w
+  pub older : AreOlder sets w
+  pub some : are_none sets ≡ false
 
 none_mapped : (serial : ℕ) (views : List (List Cell)) → are_none views ≡ false → are_none (map (without serial) views) ≡ false
 none_mapped serial [] e = e
 none_mapped serial (set ∷ sets) e = e
 
+pub none_living : (m : Memory) (sets : List (List Cell)) → are_none sets ≡ false → are_none (map (living m) sets) ≡ false
+none_living m [] e = e
+none_living m (set ∷ sets) e = e
+
 still_older : (lives : List Life) (l : Life) (set : List Cell) → ((c : Cell) → is_in cells set c ≡ true → c.serial < births_in lives) → (c : Cell) → is_in cells set c ≡ true → c.serial < births_in (lives ++ l ∷ [])
 still_older lives l set older c h = let less : c.serial < births_in lives = older c h in let more : births_in lives ≤ births_in (lives ++ l ∷ []) = births_grow lives l in omega (arith, less, more)
 
-pub older_kept : (set : List Cell) → IsKept (IsOlder set)
+set_kept : (set : List Cell) → IsKept (IsOlder set)
 unfolding born died
-older_kept set = record {
+set_kept set = record {
   put = λ w c v e. e;
   keeping = λ w k e. e;
   device = λ w d e. e;
@@ -58,6 +63,30 @@ older_kept set = record {
   birth = λ program kind s w e. still_older w.lives _ set e;
   death = λ w serial e. still_older w.lives _ set e;
 }
+
+nothing_kept : IsKept (AreOlder [])
+nothing_kept = record {
+  put = λ w c v e. tt;
+  keeping = λ w k e. tt;
+  device = λ w d e. tt;
+  tick = λ w e. tt;
+  birth = λ program kind s w e. tt;
+  death = λ w serial e. tt;
+}
+
+both_kept : (set : List Cell) (sets : List (List Cell)) → IsKept (IsOlder set) → IsKept (AreOlder sets) → IsKept (AreOlder (set ∷ sets))
+both_kept set sets o r = record {
+  put = λ w c v e. (o.put w c v e.0, r.put w c v e.1);
+  keeping = λ w k e. (o.keeping w k e.0, r.keeping w k e.1);
+  device = λ w d e. (o.device w d e.0, r.device w d e.1);
+  tick = λ w e. (o.tick w e.0, r.tick w e.1);
+  birth = λ program kind s w e. (o.birth program kind s w e.0, r.birth program kind s w e.1);
+  death = λ w serial e. (o.death w serial e.0, r.death w serial e.1);
+}
+
+pub older_kept : (sets : List (List Cell)) → IsKept (AreOlder sets)
+older_kept [] = nothing_kept
+older_kept (set ∷ sets) = both_kept set sets (set_kept set) (older_kept sets)
 
 pub upcall_kept : IsKept HasUpcall
 unfolding born died
@@ -70,67 +99,79 @@ upcall_kept = record {
   death = λ w serial e. none_mapped serial w.views e;
 }
 
-pub beside_kept : (set : List Cell) → IsKept (IsBeside set)
-beside_kept set =
-    let o : IsKept (IsOlder set) = older_kept set in
+pub beside_kept : (sets : List (List Cell)) → IsKept (IsBeside sets)
+beside_kept sets =
+    let o : IsKept (AreOlder sets) = older_kept sets in
     let u : IsKept HasUpcall = upcall_kept in
     record {
-      put = λ w c v e. record { upcall = u.put w c v e.upcall; older = o.put w c v e.older };
-      keeping = λ w k e. record { upcall = u.keeping w k e.upcall; older = o.keeping w k e.older };
-      device = λ w d e. record { upcall = u.device w d e.upcall; older = o.device w d e.older };
-      tick = λ w e. record { upcall = u.tick w e.upcall; older = o.tick w e.older };
-      birth = λ program kind s w e. record { upcall = u.birth program kind s w e.upcall; older = o.birth program kind s w e.older };
-      death = λ w serial e. record { upcall = u.death w serial e.upcall; older = o.death w serial e.older };
+      put = λ w c v e. record { upcall = u.put w c v e.upcall; older = o.put w c v e.older; some = e.some };
+      keeping = λ w k e. record { upcall = u.keeping w k e.upcall; older = o.keeping w k e.older; some = e.some };
+      device = λ w d e. record { upcall = u.device w d e.upcall; older = o.device w d e.older; some = e.some };
+      tick = λ w e. record { upcall = u.tick w e.upcall; older = o.tick w e.older; some = e.some };
+      birth = λ program kind s w e. record { upcall = u.birth program kind s w e.upcall; older = o.birth program kind s w e.older; some = e.some };
+      death = λ w serial e. record { upcall = u.death w serial e.upcall; older = o.death w serial e.older; some = e.some };
     }
 
--- ---- the set in a world with another memory
+-- ---- the sets in a world with another memory
 
 -- the world with the same living cells
-same_view : (set : List Cell) (w : World) (m : Memory) → living m set ≡ living w.memory set → with_memory (viewed set w) m ≡ viewed set (with_memory w m)
-same_view set w m e = λ i. record w { memory = m; views = sym e i ∷ [] }
+same_views : (sets : List (List Cell)) (w : World) (m : Memory) → map (living m) sets ≡ map (living w.memory) sets → with_memory (viewed sets w) m ≡ viewed sets (with_memory w m)
+same_views sets w m e = λ i. record w { memory = m; views = sym e i }
 
-pub put_viewed : (set : List Cell) (w : World) (c : Cell) (v : Wire) → with_memory (viewed set w) (put w.memory c v) ≡ viewed set (with_memory w (put w.memory c v))
-put_viewed set w c v = same_view set w (put w.memory c v) (living_put w.memory c v set)
+put_all : (sets : List (List Cell)) (m : Memory) (c : Cell) (v : Wire) → map (living (put m c v)) sets ≡ map (living m) sets
+put_all [] m c v = refl
+put_all (set ∷ sets) m c v = λ i. living_put m c v set i ∷ put_all sets m c v i
+
+pub put_viewed : (sets : List (List Cell)) (w : World) (c : Cell) (v : Wire) → with_memory (viewed sets w) (put w.memory c v) ≡ viewed sets (with_memory w (put w.memory c v))
+put_viewed sets w c v = same_views sets w (put w.memory c v) (put_all sets w.memory c v)
 
 -- ---- births and deaths
 
-born_viewed : (program : Program) (kind : BirthKind) (s : Shape64) (set : List Cell) (w : World) → IsOlder set w
-    → born program (new_of kind s (viewed set w)) (viewed set w) ≡ viewed set (born program (new_of kind s w) w)
+born_all : (program : Program) (kind : BirthKind) (s : Shape64) (sets : List (List Cell)) (w : World) → AreOlder sets w
+    → map (living (w.memory ++ zero_block program (new_of kind s w) ∷ [])) sets ≡ map (living w.memory) sets
+born_all program kind s [] w older = refl
+born_all program kind s (set ∷ sets) w older = λ i. living_born w.memory (zero_block program (new_of kind s w)) set older.0 i ∷ born_all program kind s sets w older.1 i
+
+born_viewed : (program : Program) (kind : BirthKind) (s : Shape64) (sets : List (List Cell)) (w : World) → AreOlder sets w
+    → born program (new_of kind s (viewed sets w)) (viewed sets w) ≡ viewed sets (born program (new_of kind s w) w)
 unfolding born
-born_viewed program kind s set w older =
-    let e : living (w.memory ++ zero_block program (new_of kind s w) ∷ []) set ≡ living w.memory set = living_born w.memory (zero_block program (new_of kind s w)) set older in
-    λ i. record (with_block (zero_block program (new_of kind s w)) w) { views = sym e i ∷ [] }
+born_viewed program kind s sets w older = λ i. record (with_block (zero_block program (new_of kind s w)) w) { views = sym (born_all program kind s sets w older) i }
 
-pub births_viewed : (program : Program) (kind : BirthKind) (shapes : List Shape64) (set : List Cell) (w : World) → IsOlder set w → births program kind shapes (viewed set w) ≡ viewed_born set (births program kind shapes w)
+pub births_viewed : (program : Program) (kind : BirthKind) (shapes : List Shape64) (sets : List (List Cell)) (w : World) → AreOlder sets w → births program kind shapes (viewed sets w) ≡ viewed_born sets (births program kind shapes w)
 unfolding births
-births_viewed program kind [] set w older = refl
-births_viewed program kind (s ∷ shapes) set w older =
-    ap (λ x. with_pointer (pointer_to (new_of kind s w)) (births program kind shapes x)) (born_viewed program kind s set w older)
-    ∙ ap (with_pointer (pointer_to (new_of kind s w))) (births_viewed program kind shapes set (born program (new_of kind s w) w) ((older_kept set).birth program kind s w older))
+births_viewed program kind [] sets w older = refl
+births_viewed program kind (s ∷ shapes) sets w older =
+    ap (λ x. with_pointer (pointer_to (new_of kind s w)) (births program kind shapes x)) (born_viewed program kind s sets w older)
+    ∙ ap (with_pointer (pointer_to (new_of kind s w))) (births_viewed program kind shapes sets (born program (new_of kind s w) w) ((older_kept sets).birth program kind s w older))
 
-pub died_viewed : (serial : ℕ) (set : List Cell) (w : World) → died serial (viewed set w) ≡ viewed set (died serial w)
+killed_all : (serial : ℕ) (sets : List (List Cell)) (w : World) → map (living (died serial w).memory) sets ≡ map (without serial) (map (living w.memory) sets)
 unfolding died
-died_viewed serial set w = λ i. record (died serial w) { views = sym (living_killed serial w.memory set) i ∷ [] }
+killed_all serial [] w = refl
+killed_all serial (set ∷ sets) w = λ i. living_killed serial w.memory set i ∷ killed_all serial sets w i
 
-died_at_viewed : (p : Wire) (set : List Cell) (w : World) → died_at p (viewed set w) ≡ viewed set (died_at p w)
-died_at_viewed (wire.Ptr p) set w = died_viewed p.serial set w
-died_at_viewed (wire.Int k n) set w = refl
-died_at_viewed wire.Null set w = refl
-died_at_viewed wire.Dead set w = refl
-died_at_viewed (wire.Fn f) set w = refl
-died_at_viewed (wire.Lock s) set w = refl
-died_at_viewed wire.NoValue set w = refl
+pub died_viewed : (serial : ℕ) (sets : List (List Cell)) (w : World) → died serial (viewed sets w) ≡ viewed sets (died serial w)
+unfolding died
+died_viewed serial sets w = λ i. record (died serial w) { views = sym (killed_all serial sets w) i }
 
-pub deaths_viewed : (ps : List Wire) (set : List Cell) (w : World) → deaths ps (viewed set w) ≡ viewed set (deaths ps w)
-deaths_viewed [] set w = refl
-deaths_viewed (p ∷ ps) set w = ap (deaths ps) (died_at_viewed p set w) ∙ deaths_viewed ps set (died_at p w)
+died_at_viewed : (p : Wire) (sets : List (List Cell)) (w : World) → died_at p (viewed sets w) ≡ viewed sets (died_at p w)
+died_at_viewed (wire.Ptr p) sets w = died_viewed p.serial sets w
+died_at_viewed (wire.Int k n) sets w = refl
+died_at_viewed wire.Null sets w = refl
+died_at_viewed wire.Dead sets w = refl
+died_at_viewed (wire.Fn f) sets w = refl
+died_at_viewed (wire.Lock s) sets w = refl
+died_at_viewed wire.NoValue sets w = refl
+
+pub deaths_viewed : (ps : List Wire) (sets : List (List Cell)) (w : World) → deaths ps (viewed sets w) ≡ viewed sets (deaths ps w)
+deaths_viewed [] sets w = refl
+deaths_viewed (p ∷ ps) sets w = ap (deaths ps) (died_at_viewed p sets w) ∙ deaths_viewed ps sets (died_at p w)
 
 pub births_are_viewed : BirthsAreViewed
 births_are_viewed = record {
   born = births_viewed;
-  older_born = λ program kind shapes set w older. births_keep (IsOlder set) (older_kept set) program kind shapes w older;
+  older_born = λ program kind shapes sets w older. births_keep (AreOlder sets) (older_kept sets) program kind shapes w older;
   died = deaths_viewed;
-  older_died = λ ps set w older. deaths_keep (IsOlder set) (older_kept set) ps w older;
+  older_died = λ ps sets w older. deaths_keep (AreOlder sets) (older_kept sets) ps w older;
   upcall_born = λ program kind shapes w e. births_keep HasUpcall upcall_kept program kind shapes w e;
   upcall_died = λ ps w e. deaths_keep HasUpcall upcall_kept ps w e;
 }
@@ -172,103 +213,104 @@ module _ (a b : Cell → Bool) (m : Memory) (alike : (c : Cell) → is_live m c.
   read_same (wire.Lock s) n = refl
   read_same wire.NoValue n = refl
 
-stored_viewed : (set : List Cell) (w : World) (v : Wire) (r : Result Cell StopKind) → remembers (viewed set w) (stored_into w.memory v r) ≡ viewed_if set (remembers w (stored_into w.memory v r))
-stored_viewed set w v (Ok c) = ap (λ (x : World). Ok x) (put_viewed set w c (normal w.memory v))
-stored_viewed set w v (Err kind) = refl
+stored_viewed : (sets : List (List Cell)) (w : World) (v : Wire) (r : Result Cell StopKind) → remembers (viewed sets w) (stored_into w.memory v r) ≡ viewed_if sets (remembers w (stored_into w.memory v r))
+stored_viewed sets w v (Ok c) = ap (λ (x : World). Ok x) (put_viewed sets w c (normal w.memory v))
+stored_viewed sets w v (Err kind) = refl
 
-agree_on : (program : Program) (set : List Cell) (inside beside : World → Cell → Bool) → TouchAlike set inside beside → (w : World) → AgreeOn program set inside beside w
+agree_on : (program : Program) (sets : List (List Cell)) (inside beside : World → Cell → Bool) → TouchAlike sets inside beside → (w : World) → AgreeOn program sets inside beside w
 unfolding loaded stored
-agree_on program set inside beside alike w = record {
-  load = λ p. ap (loaded_from w.memory) (reached_same (inside (viewed set w)) (beside w) w.memory (alike w) p);
-  store = λ p v. ap (λ r. remembers (viewed set w) (stored_into w.memory v r)) (reached_same (inside (viewed set w)) (beside w) w.memory (alike w) p) ∙ stored_viewed set w v _;
-  read = λ p n. read_same (inside (viewed set w)) (beside w) w.memory (alike w) p n;
+agree_on program sets inside beside alike w = record {
+  load = λ p. ap (loaded_from w.memory) (reached_same (inside (viewed sets w)) (beside w) w.memory (alike w) p);
+  store = λ p v. ap (λ r. remembers (viewed sets w) (stored_into w.memory v r)) (reached_same (inside (viewed sets w)) (beside w) w.memory (alike w) p) ∙ stored_viewed sets w v _;
+  read = λ p n. read_same (inside (viewed sets w)) (beside w) w.memory (alike w) p n;
   fresh = λ v. refl;
 }
 
 pub accesses_are_viewed : AccessesAreViewed
 accesses_are_viewed = record {
   agree = agree_on;
-  user = λ set w c live. is_living w.memory set c ∙ live_and (is_live w.memory c.serial) (is_in cells set c) live;
-  kernel = λ set w c live. refl;
+  user = λ set outer w c live. is_living w.memory set c ∙ live_and (is_live w.memory c.serial) (is_in cells set c) live;
+  kernel = λ sets w c live. refl;
 }
 
 -- ---- services
 
-pick : (set : List Cell) (x x' y y' : Served) (b : Bool) → x' ≡ viewing set x → y' ≡ viewing set y → chosen b x' y' ≡ viewing set (chosen b x y)
-pick set x x' y y' true h g = h
-pick set x x' y y' false h g = g
+pick : (sets : List (List Cell)) (x x' y y' : Served) (b : Bool) → x' ≡ viewing sets x → y' ≡ viewing sets y → chosen b x' y' ≡ viewing sets (chosen b x y)
+pick sets x x' y y' true h g = h
+pick sets x x' y y' false h g = g
 
-allocated_viewed : (program : Program) (shapes : List Shape64) (set : List Cell) (w : World) → IsOlder set w → allocated program shapes (viewed set w) ≡ viewing set (allocated program shapes w)
-allocated_viewed program [] set w older = refl
-allocated_viewed program (s ∷ shapes) set w older = pick set _ _ _ _ (fails_now w || is_no_block program s) refl (ap as_served (births_viewed program Heap (s ∷ []) set w older))
+allocated_viewed : (program : Program) (shapes : List Shape64) (sets : List (List Cell)) (w : World) → AreOlder sets w → allocated program shapes (viewed sets w) ≡ viewing sets (allocated program shapes w)
+allocated_viewed program [] sets w older = refl
+allocated_viewed program (s ∷ shapes) sets w older = pick sets _ _ _ _ (fails_now w || is_no_block program s) refl (ap as_served (births_viewed program Heap (s ∷ []) sets w older))
 
-freed_by_viewed : (whole locked : Bool) (serial : ℕ) (at : At) (set : List Cell) (w : World) → freed_by whole locked serial at (viewed set w) ≡ viewing set (freed_by whole locked serial at w)
-freed_by_viewed false locked serial at set w = refl
-freed_by_viewed true true serial at set w = refl
-freed_by_viewed true false serial at set w = ap gives_none (died_viewed serial set w)
+freed_by_viewed : (whole locked : Bool) (serial : ℕ) (at : At) (sets : List (List Cell)) (w : World) → freed_by whole locked serial at (viewed sets w) ≡ viewing sets (freed_by whole locked serial at w)
+freed_by_viewed false locked serial at sets w = refl
+freed_by_viewed true true serial at sets w = refl
+freed_by_viewed true false serial at sets w = ap gives_none (died_viewed serial sets w)
 
-freed_viewed : (program : Program) (at : At) (p : Wire) (set : List Cell) (w : World) → freed program at p (viewed set w) ≡ viewing set (freed program at p w)
-freed_viewed program at (wire.Ptr v) set w = freed_by_viewed _ _ v.serial at set w
-freed_viewed program at (wire.Int k n) set w = refl
-freed_viewed program at wire.Null set w = refl
-freed_viewed program at wire.Dead set w = refl
-freed_viewed program at (wire.Fn f) set w = refl
-freed_viewed program at (wire.Lock s) set w = refl
-freed_viewed program at wire.NoValue set w = refl
+freed_viewed : (program : Program) (at : At) (p : Wire) (sets : List (List Cell)) (w : World) → freed program at p (viewed sets w) ≡ viewing sets (freed program at p w)
+freed_viewed program at (wire.Ptr v) sets w = freed_by_viewed _ _ v.serial at sets w
+freed_viewed program at (wire.Int k n) sets w = refl
+freed_viewed program at wire.Null sets w = refl
+freed_viewed program at wire.Dead sets w = refl
+freed_viewed program at (wire.Fn f) sets w = refl
+freed_viewed program at (wire.Lock s) sets w = refl
+freed_viewed program at wire.NoValue sets w = refl
 
-requested_viewed : (h : Option ℕ) (v : Wire) (set : List Cell) (w : World) → requested h v (viewed set w) ≡ viewing set (requested h v w)
-requested_viewed None v set w = refl
-requested_viewed (Some f) v set w = refl
+requested_viewed : (h : Option ℕ) (v : Wire) (sets : List (List Cell)) (w : World) → requested h v (viewed sets w) ≡ viewing sets (requested h v w)
+requested_viewed None v sets w = refl
+requested_viewed (Some f) v sets w = refl
 
-locked_viewed : (c : Cell) (r : Result LockState StopKind) (at : At) (set : List Cell) (w : World) → when_changed (with_lock w.memory c r) at (viewed set w) ≡ viewing set (when_changed (with_lock w.memory c r) at w)
-locked_viewed c (Ok s) at set w = ap gives_none (put_viewed set w c (wire.Lock s))
-locked_viewed c (Err kind) at set w = refl
+locked_viewed : (c : Cell) (r : Result LockState StopKind) (at : At) (sets : List (List Cell)) (w : World) → when_changed (with_lock w.memory c r) at (viewed sets w) ≡ viewing sets (when_changed (with_lock w.memory c r) at w)
+locked_viewed c (Ok s) at sets w = ap gives_none (put_viewed sets w c (wire.Lock s))
+locked_viewed c (Err kind) at sets w = refl
 
-changed_viewed : (change : LockState → Result LockState StopKind) (r : Result Cell StopKind) (at : At) (set : List Cell) (w : World)
-    → when_changed (changed change w.memory r) at (viewed set w) ≡ viewing set (when_changed (changed change w.memory r) at w)
-changed_viewed change (Ok c) at set w = locked_viewed c (change (lock_in (cell_at w.memory c))) at set w
-changed_viewed change (Err kind) at set w = refl
+changed_viewed : (change : LockState → Result LockState StopKind) (r : Result Cell StopKind) (at : At) (sets : List (List Cell)) (w : World)
+    → when_changed (changed change w.memory r) at (viewed sets w) ≡ viewing sets (when_changed (changed change w.memory r) at w)
+changed_viewed change (Ok c) at sets w = locked_viewed c (change (lock_in (cell_at w.memory c))) at sets w
+changed_viewed change (Err kind) at sets w = refl
 
 -- while an upcall is open a lock sleeps
 sleeps : (views : List (List Cell)) → are_none views ≡ false → taken_as views ≡ Sleep
 sleeps [] e = absurd cc
 sleeps (set ∷ sets) e = refl
 
-acquired_viewed : (p : Wire) (at : At) (set : List Cell) (w : World) → HasUpcall w → when_changed (acquire p (viewed set w)) at (viewed set w) ≡ viewing set (when_changed (acquire p w) at w)
+acquired_viewed : (p : Wire) (at : At) (sets : List (List Cell)) (w : World) → IsBeside sets w → when_changed (acquire p (viewed sets w)) at (viewed sets w) ≡ viewing sets (when_changed (acquire p w) at w)
 unfolding acquire
-acquired_viewed p at set w e =
-    ap (λ s. when_changed (changed (acquired s) w.memory (reached everywhere w.memory p)) at (viewed set w)) (sym (sleeps w.views e))
-    ∙ changed_viewed (acquired (taken_as w.views)) (reached everywhere w.memory p) at set w
+acquired_viewed p at sets w b =
+    ap (λ s. when_changed (changed (acquired s) w.memory (reached everywhere w.memory p)) at (viewed sets w)) (sleeps (map (living w.memory) sets) (none_living w.memory sets b.some) ∙ sym (sleeps w.views b.upcall))
+    ∙ changed_viewed (acquired (taken_as w.views)) (reached everywhere w.memory p) at sets w
 
-released_viewed : (p : Wire) (at : At) (set : List Cell) (w : World) → when_changed (release p (viewed set w)) at (viewed set w) ≡ viewing set (when_changed (release p w) at w)
+released_viewed : (p : Wire) (at : At) (sets : List (List Cell)) (w : World) → when_changed (release p (viewed sets w)) at (viewed sets w) ≡ viewing sets (when_changed (release p w) at w)
 unfolding release
-released_viewed p at set w = changed_viewed released (reached everywhere w.memory p) at set w
+released_viewed p at sets w = changed_viewed released (reached everywhere w.memory p) at sets w
 
-served_by_viewed : (program : Program) (a : Asked) (s : Option Service) (set : List Cell) (w : World) → HasUpcall w → IsOlder set w → served_by program a s (viewed set w) ≡ viewing set (served_by program a s w)
-served_by_viewed program a (Some Kzalloc) set w e older = allocated_viewed program a.shapes set (asked_once_more w) older
-served_by_viewed program a (Some Kcalloc) set w e older = allocated_viewed program a.shapes set (asked_once_more w) older
-served_by_viewed program a (Some Kfree) set w e older = freed_viewed program a.at (first_of a.args) set w
-served_by_viewed program a (Some Readl) set w e older = pick set _ _ _ _ (nat_lt (natural (first_of a.args)) 4096) refl refl
-served_by_viewed program a (Some Writel) set w e older = pick set _ _ _ _ (nat_lt (natural (first_of (rest_of a.args))) 4096) refl refl
-served_by_viewed program a (Some Printk) set w e older = refl
-served_by_viewed program a (Some RequestIrq) set w e older = requested_viewed w.kept.handler (first_of a.args) set w
-served_by_viewed program a (Some FreeIrq) set w e older = refl
-served_by_viewed program a (Some Deliver) set w e older = refl
-served_by_viewed program a (Some Combolock) set w e older = acquired_viewed (first_of a.args) a.at set w e
-served_by_viewed program a (Some Combounlock) set w e older = released_viewed (first_of a.args) a.at set w
-served_by_viewed program a (Some Bug) set w e older = refl
-served_by_viewed program a (Some Enter) set w e older = ap as_served (births_viewed program Auto a.shapes set w older)
-served_by_viewed program a (Some Leave) set w e older = ap gives_none (deaths_viewed a.args set w)
-served_by_viewed program a None set w e older = refl
+served_by_viewed : (program : Program) (a : Asked) (s : Option Service) (sets : List (List Cell)) (w : World) → IsBeside sets w → served_by program a s (viewed sets w) ≡ viewing sets (served_by program a s w)
+served_by_viewed program a (Some Kzalloc) sets w b = allocated_viewed program a.shapes sets (asked_once_more w) b.older
+served_by_viewed program a (Some Kcalloc) sets w b = allocated_viewed program a.shapes sets (asked_once_more w) b.older
+served_by_viewed program a (Some Kfree) sets w b = freed_viewed program a.at (first_of a.args) sets w
+served_by_viewed program a (Some Readl) sets w b = pick sets _ _ _ _ (nat_lt (natural (first_of a.args)) 4096) refl refl
+served_by_viewed program a (Some Writel) sets w b = pick sets _ _ _ _ (nat_lt (natural (first_of (rest_of a.args))) 4096) refl refl
+served_by_viewed program a (Some Printk) sets w b = refl
+served_by_viewed program a (Some RequestIrq) sets w b = requested_viewed w.kept.handler (first_of a.args) sets w
+served_by_viewed program a (Some FreeIrq) sets w b = refl
+served_by_viewed program a (Some Deliver) sets w b = refl
+served_by_viewed program a (Some Combolock) sets w b = acquired_viewed (first_of a.args) a.at sets w b
+served_by_viewed program a (Some Combounlock) sets w b = released_viewed (first_of a.args) a.at sets w
+served_by_viewed program a (Some Bug) sets w b = refl
+served_by_viewed program a (Some Enter) sets w b = ap as_served (births_viewed program Auto a.shapes sets w b.older)
+served_by_viewed program a (Some Leave) sets w b = ap gives_none (deaths_viewed a.args sets w)
+served_by_viewed program a None sets w b = refl
 
-pub served_viewed : (program : Program) (a : Asked) (set : List Cell) (w : World) → HasUpcall w → IsOlder set w → served program a (viewed set w) ≡ viewing set (served program a w)
+pub served_viewed : (program : Program) (a : Asked) (sets : List (List Cell)) (w : World) → IsBeside sets w → served program a (viewed sets w) ≡ viewing sets (served program a w)
 unfolding served
-served_viewed program a set w e older = served_by_viewed program (as_now w a) (service_numbered a.service) set w e older
+served_viewed program a sets w b = served_by_viewed program (as_now w a) (service_numbered a.service) sets w b
 
-pub served_beside : (program : Program) (a : Asked) (set : List Cell) (w : World) → IsBeside set w → IsBeside set (left (served program a w))
-served_beside program a set w b = (served_keeps (IsBeside set) (beside_kept set) program a w b).at_end
+pub served_beside : (program : Program) (a : Asked) (sets : List (List Cell)) (w : World) → IsBeside sets w → IsBeside sets (left (served program a w))
+served_beside program a sets w b = (served_keeps (IsBeside sets) (beside_kept sets) program a w b).at_end
 
 pub services_are_viewed : ServicesAreViewed
-services_are_viewed program a set w e older =
-    let b = served_beside program a set w (record { upcall = e; older = older }) in
-    record { is = served_viewed program a set w e older; older = b.older; upcall = b.upcall }
+services_are_viewed program a set outer w e older =
+    let b : IsBeside (set ∷ outer) w = record { upcall = e; older = older; some = refl } in
+    let x = served_beside program a (set ∷ outer) w b in
+    record { is = served_viewed program a (set ∷ outer) w b; older = x.older; upcall = x.upcall }

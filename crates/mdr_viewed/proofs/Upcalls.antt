@@ -1,5 +1,5 @@
 -- What user code asks for, and calls, with its set beside the world.
-use Rattle.std.proofs.Common.{◌≡◌, ℕ, List, Result, Ok, Err, refl, ◌∙◌, ap}
+use Rattle.std.proofs.Common.{◌≡◌, ℕ, List, ◌∷◌, Result, Ok, Err, refl, ◌∙◌, ap}
 use Rattle.mdr_core.specs.declared.place.At.{At}
 use Rattle.mdr_extents.specs.Reaching.{Failing}
 use Rattle.mdr_meaning.specs.declared.wire.Wire.{Wire}
@@ -15,42 +15,43 @@ use Rattle.mdr_watched.specs.Views.{gained, renewed, taken}
 use Rattle.mdr_watched.specs.Watched.{downcall, held, kernel_of, may_not, returns_to, sent, serves}
 use Rattle.mdr_watched.proofs.KeepLaws.{served_keeps}
 use Rattle.mdr_viewed.specs.Laws.{UpcallsAreViewed, asks, goes_down, returns}
-use Rattle.mdr_viewed.specs.Viewed.{HasUpcall, IsOlder, IsOrdered, after_beside, viewed, viewing}
+use Rattle.mdr_viewed.specs.Viewed.{AreOlder, HasUpcall, IsOrdered, after_beside, viewed, viewing}
 use Rattle.mdr_viewed.proofs.KernelCode.{call_keeps, called_viewed}
 use Rattle.mdr_viewed.proofs.Sets.{gains, ordered_kept, renews, sets_are_viewed}
 use Rattle.mdr_viewed.proofs.Steps.{served_viewed}
 
 -- what comes after work that is done with the set in the world
-goes_beside : {A B : Type 0} (set : List Cell) (r : Ran A) (go go' : A → World → Ran B) → IsOrdered (left r) → ((x : A) (w : World) → IsOrdered w → go x (viewed set w) ≡ go' x w) → after (viewing set r) go ≡ after_beside set r go'
-goes_beside set (Ended x w) go go' o each = each x w o
-goes_beside set (Stopped kind at w) go go' o each = refl
+goes_beside : {A B : Type 0} (sets : List (List Cell)) (r : Ran A) (go go' : A → World → Ran B) → IsOrdered (left r) → ((x : A) (w : World) → IsOrdered w → go x (viewed sets w) ≡ go' x w) → after (viewing sets r) go ≡ after_beside sets r go'
+goes_beside sets (Ended x w) go go' o each = each x w o
+goes_beside sets (Stopped kind at w) go go' o each = refl
 
-module _ (d : Driver) (t : ℕ) (set : List Cell) where
-  asks_viewed : (asked : Asked) (w : World) → HasUpcall w → IsOlder set w → IsOrdered w → serves d (held d) t asked (viewed set w) ≡ asks d t set asked w
+module _ (d : Driver) (t : ℕ) (set : List Cell) (outer : List (List Cell)) where
+  asks_viewed : (asked : Asked) (w : World) → HasUpcall w → AreOlder (set ∷ outer) w → IsOrdered w → serves d (held d) t asked (viewed (set ∷ outer) w) ≡ asks d t set outer asked w
   asks_viewed asked w e older o =
-      ap (λ r. after r (λ results w'. Ended results (gained d.program (touched_by d.plan t) (next_serial w) w'))) (served_viewed d.program asked set w e older)
-      ∙ goes_beside set (served d.program asked w) _ _ (served_keeps IsOrdered ordered_kept d.program asked w o).at_end
-      (λ results w' o'. ap (Ended results) (gains d.program (touched_by d.plan t) (next_serial w) set w' o'))
+      ap (λ r. after r (λ results w'. Ended results (gained d.program (touched_by d.plan t) (next_serial w) w'))) (served_viewed d.program asked (set ∷ outer) w (record { upcall = e; older = older; some = refl }))
+      ∙ goes_beside (set ∷ outer) (served d.program asked w) _ _ (served_keeps IsOrdered ordered_kept d.program asked w o).at_end
+      (λ results w' o'. ap (Ended results) (gains d.program (touched_by d.plan t) (next_serial w) set outer w' o'))
 
   -- the set that a result leads to
   found_viewed : (r : Result (List Cell) Failing) (at : At) (v : Wire) (w : World) → ((found : List Cell) → r ≡ Ok found → AreLive w.memory found)
-      → taken r at (viewed set w) (λ found. Ended v (renewed found (viewed set w))) ≡ taken r at (viewed set w) (λ found. Ended v (viewed found w))
-  found_viewed (Ok found) at v w live = ap (Ended v) (renews set found w (live found refl))
+      → taken r at (viewed (set ∷ outer) w) (λ found. Ended v (renewed found (viewed (set ∷ outer) w))) ≡ taken r at (viewed (set ∷ outer) w) (λ found. Ended v (viewed (found ∷ outer) w))
+  found_viewed (Ok found) at v w live = ap (Ended v) (renews set found outer w (live found refl))
   found_viewed (Err failing) at v w live = refl
 
-  returns_viewed : (at : At) (f : ℕ) (args : List Wire) (v : Wire) (w : World) → IsOrdered w → returns_to d (held d) t at f args v (viewed set w) ≡ returns d t set at f args v w
+  returns_viewed : (at : At) (f : ℕ) (args : List Wire) (v : Wire) (w : World) → IsOrdered w → returns_to d (held d) t at f args v (viewed (set ∷ outer) w) ≡ returns d t set outer at f args v w
   returns_viewed at f args v w o =
-      ap (λ r. taken r at (viewed set w) (λ found. Ended v (renewed found (viewed set w)))) (sets_are_viewed.known d.program (touched_by d.plan t) w.memory set (result_roots d.program f args v))
+      ap (λ r. taken r at (viewed (set ∷ outer) w) (λ found. Ended v (renewed found (viewed (set ∷ outer) w)))) (sets_are_viewed.known d.program (touched_by d.plan t) w.memory set (result_roots d.program f args v))
       ∙ found_viewed _ at v w (λ found is. sets_are_viewed.taken d.program (touched_by d.plan t) set (result_roots d.program f args v) found w o is)
 
-  downs_viewed : (at : At) (f : ℕ) (args : List Wire) (depth : ℕ) (w : World) → HasUpcall w → IsOlder set w → IsOrdered w → downcall d (held d) t may_not at f args depth (viewed set w) ≡ goes_down d t set at f args depth w
+  downs_viewed : (at : At) (f : ℕ) (args : List Wire) (depth : ℕ) (w : World) → HasUpcall w → AreOlder (set ∷ outer) w → IsOrdered w → downcall d (held d) t may_not at f args depth (viewed (set ∷ outer) w) ≡ goes_down d t set outer at f args depth w
   downs_viewed at f args depth w e older o =
-      ap (λ r. after r (returns_to d (held d) t at f (sent d (held d) t args w))) (called_viewed d f (sent d (held d) t args w) depth set w e older).is
-      ∙ goes_beside set (call (kernel_of d) nothing f (sent d (held d) t args w) depth w) _ _ (call_keeps d IsOrdered ordered_kept f (sent d (held d) t args w) depth w o)
+      ap (λ r. after r (returns_to d (held d) t at f (sent d (held d) t args w))) (called_viewed d f (sent d (held d) t args w) depth set outer w e older).is
+      ∙ goes_beside (set ∷ outer) (call (kernel_of d) nothing f (sent d (held d) t args w) depth w) _ _ (call_keeps d IsOrdered ordered_kept f (sent d (held d) t args w) depth w o)
       (λ v w' o'. returns_viewed at f (sent d (held d) t args w) v w' o')
 
 pub upcalls_are_viewed : UpcallsAreViewed
 upcalls_are_viewed = record {
-  asks = λ d t set asked w e older o. asks_viewed d t set asked w e older o;
-  downs = λ d t set at f args depth w e older o. downs_viewed d t set at f args depth w e older o;
+  asks = λ d t set outer asked w e older o. asks_viewed d t set outer asked w e older o;
+  downs = λ d t set outer at f args depth w e older o. downs_viewed d t set outer at f args depth w e older o;
+  back = λ d t set outer at f args v w older o. returns_viewed d t set outer at f args v w o;
 }

@@ -1,5 +1,6 @@
 -- Accesses that are held to a set.
-use Rattle.std.proofs.Common.{◌≡◌, ℕ, suc, ◌+◌, ◌-◌, ◌<◌, ◌≤◌, arith, Bool, true, false, not, ◌&&◌, List, [], ◌∷◌, Result, Ok, Err, refl, sym, ◌∙◌, ap, subst}
+use Rattle.std.proofs.Common.{◌≡◌, ℕ, zero, suc, ◌+◌, ◌-◌, ◌<◌, ◌≤◌, arith, Bool, true, false, not, ◌&&◌, List, [], ◌∷◌, ◌++◌, length, map, reverse, take, Result, Ok, Err, refl, sym, ◌∙◌, ap, subst}
+use Rattle.std.proofs.lemmas.List.{append-nil, length-map, length-reverse, reverse-append}
 use Rattle.std.specs.Prelude.{OnErr, nat_le, nat_lt}
 use Rattle.std.specs.List.{list_all}
 use Rattle.mdr_core.specs.declared.program.Program.{Program}
@@ -23,15 +24,19 @@ use Rattle.mdr_paths.proofs.NodeLists.{none_in}
 use Rattle.mdr_plain.specs.Gate.{are_none}
 use Rattle.mdr_plain.specs.Storage.{births, bytes_from, cells_read, deaths, read, remembers, with_memory}
 use Rattle.mdr_plain.specs.World.{World}
-use Rattle.mdr_viewed.specs.Viewed.{in_set, viewed, viewed_born, viewed_if}
+use Rattle.mdr_viewed.specs.Viewed.{AreOlder, IsOlder, in_set, viewed, viewed_born, viewed_if}
 use Rattle.mdr_viewed.specs.Laws.{AgreeOn}
 use Rattle.mdr_viewed.proofs.Steps.{IsBeside, accesses_are_viewed, beside_kept, births_are_viewed, births_viewed, deaths_viewed}
 use Rattle.mdr_watched.proofs.KeepLaws.{deaths_keep}
 use Rattle.mdr_viewed.proofs.Sets.{sets_are_viewed}
 use Rattle.mdr_watched.specs.Order.{AreLive}
-use Rattle.mdr_watched.specs.Views.{may_touch, opened}
+use Rattle.mdr_watched.specs.Views.{below, living, may_touch, opened}
 use Rattle.mdr_world.specs.Driven.{Driven, Ticks, driven_accesses, driver, driver_if, open_views}
-use Rattle.mdr_watch.specs.Guarding.{IsGuarded, are_kept_out, guarded_accesses, is_kept_out}
+use Rattle.mdr_watch.specs.declared.guarded.Closing.{Closing}
+use Rattle.mdr_watch.specs.declared.guarded.Closing.TheVariants as closing
+use Rattle.mdr_watch.specs.declared.sets.Sets.{Sets}
+use Rattle.mdr_watch.specs.Guarding.{IsGuarded, StaysOpen, are_kept_out, guarded_accesses, is_kept_out, sets_of}
+use Rattle.mdr_watch.specs.Leaving.{IsClosed, with_views}
 
 -- ---- which cell is reached
 
@@ -110,59 +115,59 @@ module _ (set : List Cell) (m : Memory) where
 
 -- ---- accesses of user code, with the set beside the world
 
-module _ (program : Program) (set : List Cell) (w : World) where
-  abbrev agree : AgreeOn program set may_touch (in_set set) w
-  agree = accesses_are_viewed.agree program set may_touch (in_set set) (accesses_are_viewed.user set) w
+module _ (program : Program) (set : List Cell) (outer : List (List Cell)) (w : World) where
+  abbrev agree : AgreeOn program (set ∷ outer) may_touch (in_set set) w
+  agree = accesses_are_viewed.agree program (set ∷ outer) may_touch (in_set set) (accesses_are_viewed.user set outer) w
 
-  pub load_stops : (g : Driven) → driver program (viewed set w) ≡ g → (p : Wire) → is_kept_out set w.memory p ≡ true → guarded_accesses.load g p ≡ Err stop.Annotation
+  pub load_stops : (g : Driven) → driver program (viewed (set ∷ outer) w) ≡ g → (p : Wire) → is_kept_out set w.memory p ≡ true → guarded_accesses.load g p ≡ Err stop.Annotation
   load_stops g is p e = sym (ap (λ d. guarded_accesses.load d p) is) ∙ agree.load p ∙ loaded_out set w.memory p e
 
-  pub load_goes : (g : Driven) → driver program (viewed set w) ≡ g → (p : Wire) → is_kept_out set w.memory p ≡ false → driven_accesses.load (driver program w) p ≡ guarded_accesses.load g p
+  pub load_goes : (g : Driven) → driver program (viewed (set ∷ outer) w) ≡ g → (p : Wire) → is_kept_out set w.memory p ≡ false → driven_accesses.load (driver program w) p ≡ guarded_accesses.load g p
   load_goes g is p e = sym (loaded_in set w.memory p e) ∙ sym (agree.load p) ∙ ap (λ d. guarded_accesses.load d p) is
 
-  pub read_stops : (g : Driven) → driver program (viewed set w) ≡ g → (p : Wire) (n : ℕ) → are_kept_out set w.memory p n ≡ true → guarded_accesses.read g p n ≡ Err stop.Annotation
+  pub read_stops : (g : Driven) → driver program (viewed (set ∷ outer) w) ≡ g → (p : Wire) (n : ℕ) → are_kept_out set w.memory p n ≡ true → guarded_accesses.read g p n ≡ Err stop.Annotation
   read_stops g is p n e = sym (ap (λ d. guarded_accesses.read d p n) is) ∙ agree.read p n ∙ read_out set w.memory p n e
 
-  pub read_goes : (g : Driven) → driver program (viewed set w) ≡ g → (p : Wire) (n : ℕ) → are_kept_out set w.memory p n ≡ false → driven_accesses.read (driver program w) p n ≡ guarded_accesses.read g p n
+  pub read_goes : (g : Driven) → driver program (viewed (set ∷ outer) w) ≡ g → (p : Wire) (n : ℕ) → are_kept_out set w.memory p n ≡ false → driven_accesses.read (driver program w) p n ≡ guarded_accesses.read g p n
   read_goes g is p n e = sym (read_in set w.memory p n e) ∙ sym (agree.read p n) ∙ ap (λ d. guarded_accesses.read d p n) is
 
-  pub fresh_goes : (g : Driven) → driver program (viewed set w) ≡ g → (v : Wire) → driven_accesses.fresh (driver program w) v ≡ guarded_accesses.fresh g v
+  pub fresh_goes : (g : Driven) → driver program (viewed (set ∷ outer) w) ≡ g → (v : Wire) → driven_accesses.fresh (driver program w) v ≡ guarded_accesses.fresh g v
   fresh_goes g is v = ap (λ d. guarded_accesses.fresh d v) is
 
 -- ---- stores, deaths and ticks leave the set beside the world
 
-pub guarded_with : (set : List Cell) (w : World) (m : Memory) → IsGuarded set w → IsGuarded set (with_memory w m)
-guarded_with set w m g = record { upcall = g.upcall; older = g.older }
+pub guarded_with : (set : List Cell) (outer : List (List Cell)) (w : World) (m : Memory) → IsGuarded (set ∷ outer) w → IsGuarded (set ∷ outer) (with_memory w m)
+guarded_with set outer w m g = record { upcall = g.upcall; older = g.older }
 
-module _ (program : Program) (set : List Cell) where
-  stored_if : (r : Result (Unit {0}) StopKind) (s : Result World StopKind) (d' : Driven) → driver_if program s ≡ when_made r d' → driver_if program (viewed_if set s) ≡ when_made r (driver d'.program (viewed set d'.world))
-  stored_if (Ok x) (Ok w) d' e = let same : driver program w ≡ d' = cc in ap (λ (d : Driven). Ok (driver d.program (viewed set d.world))) same
+module _ (program : Program) (set : List Cell) (outer : List (List Cell)) where
+  stored_if : (r : Result (Unit {0}) StopKind) (s : Result World StopKind) (d' : Driven) → driver_if program s ≡ when_made r d' → driver_if program (viewed_if (set ∷ outer) s) ≡ when_made r (driver d'.program (viewed (set ∷ outer) d'.world))
+  stored_if (Ok x) (Ok w) d' e = let same : driver program w ≡ d' = cc in ap (λ (d : Driven). Ok (driver d.program (viewed (set ∷ outer) d.world))) same
   stored_if (Ok x) (Err kind) d' e = absurd (cc e)
   stored_if (Err kind) (Ok w) d' e = absurd (cc e)
   stored_if (Err kind) (Err kind') d' e = let same : kind' ≡ kind = cc in ap Err same
 
-  pub store_stops : (w : World) (g : Driven) → driver program (viewed set w) ≡ g → (p v : Wire) → is_kept_out set w.memory p ≡ true → guarded_accesses.store g p v ≡ Err stop.Annotation
+  pub store_stops : (w : World) (g : Driven) → driver program (viewed (set ∷ outer) w) ≡ g → (p v : Wire) → is_kept_out set w.memory p ≡ true → guarded_accesses.store g p v ≡ Err stop.Annotation
   store_stops w g is p v e =
       sym (ap (λ d. guarded_accesses.store d p v) is)
-      ∙ ap (driver_if program) (AgreeOn.store (accesses_are_viewed.agree program set may_touch (in_set set) (accesses_are_viewed.user set) w) p v)
-      ∙ ap (λ m. driver_if program (viewed_if set (remembers w m))) (stored_out set w.memory p v e)
+      ∙ ap (driver_if program) (AgreeOn.store (accesses_are_viewed.agree program (set ∷ outer) may_touch (in_set set) (accesses_are_viewed.user set outer) w) p v)
+      ∙ ap (λ m. driver_if program (viewed_if (set ∷ outer) (remembers w m))) (stored_out set w.memory p v e)
 
-  pub store_goes : (w : World) (g : Driven) → driver program (viewed set w) ≡ g → (p v : Wire) → is_kept_out set w.memory p ≡ false → (r : Result (Unit {0}) StopKind) (d' : Driven)
-      → driven_accesses.store (driver program w) p v ≡ when_made r d' → guarded_accesses.store g p v ≡ when_made r (driver d'.program (viewed set d'.world))
+  pub store_goes : (w : World) (g : Driven) → driver program (viewed (set ∷ outer) w) ≡ g → (p v : Wire) → is_kept_out set w.memory p ≡ false → (r : Result (Unit {0}) StopKind) (d' : Driven)
+      → driven_accesses.store (driver program w) p v ≡ when_made r d' → guarded_accesses.store g p v ≡ when_made r (driver d'.program (viewed (set ∷ outer) d'.world))
   store_goes w g is p v e r d' made =
       sym (ap (λ d. guarded_accesses.store d p v) is)
-      ∙ ap (driver_if program) (AgreeOn.store (accesses_are_viewed.agree program set may_touch (in_set set) (accesses_are_viewed.user set) w) p v)
-      ∙ ap (λ m. driver_if program (viewed_if set (remembers w m))) (stored_in set w.memory p v e)
+      ∙ ap (driver_if program) (AgreeOn.store (accesses_are_viewed.agree program (set ∷ outer) may_touch (in_set set) (accesses_are_viewed.user set outer) w) p v)
+      ∙ ap (λ m. driver_if program (viewed_if (set ∷ outer) (remembers w m))) (stored_in set w.memory p v e)
       ∙ stored_if r (remembers w (stored everywhere w.memory p v)) d' made
 
-  pub death_goes : (w : World) (g : Driven) → driver program (viewed set w) ≡ g → (ps : List Wire) (d' : Driven) → d' ≡ driven_accesses.death (driver program w) ps → driver d'.program (viewed set d'.world) ≡ guarded_accesses.death g ps
-  death_goes w g is ps d' e = ap (λ (d : Driven). driver d.program (viewed set d.world)) e ∙ ap (driver program) (sym (deaths_viewed ps set w)) ∙ ap (λ d. guarded_accesses.death d ps) is
+  pub death_goes : (w : World) (g : Driven) → driver program (viewed (set ∷ outer) w) ≡ g → (ps : List Wire) (d' : Driven) → d' ≡ driven_accesses.death (driver program w) ps → driver d'.program (viewed (set ∷ outer) d'.world) ≡ guarded_accesses.death g ps
+  death_goes w g is ps d' e = ap (λ (d : Driven). driver d.program (viewed (set ∷ outer) d.world)) e ∙ ap (driver program) (sym (deaths_viewed ps (set ∷ outer) w)) ∙ ap (λ d. guarded_accesses.death d ps) is
 
-pub store_guarded : (program : Program) (set : List Cell) (w : World) (s : Result Memory StopKind) (r : Result (Unit {0}) StopKind) (d' : Driven) → IsGuarded set w → driver_if program (remembers w s) ≡ when_made r d' → (OnErr r (d' ≡ driver program w)) → IsGuarded set d'.world
-store_guarded program set w (Ok m) (Ok x) d' g e kept = let same : driver program (with_memory w m) ≡ d' = cc in subst (λ (d : Driven). IsGuarded set d.world) same (guarded_with set w m g)
-store_guarded program set w (Ok m) (Err kind) d' g e kept = absurd (cc e)
-store_guarded program set w (Err kind) (Ok x) d' g e kept = absurd (cc e)
-store_guarded program set w (Err kind) (Err kind') d' g e kept = subst (λ (d : Driven). IsGuarded set d.world) (sym kept) g
+pub store_guarded : (program : Program) (set : List Cell) (outer : List (List Cell)) (w : World) (s : Result Memory StopKind) (r : Result (Unit {0}) StopKind) (d' : Driven) → IsGuarded (set ∷ outer) w → driver_if program (remembers w s) ≡ when_made r d' → (OnErr r (d' ≡ driver program w)) → IsGuarded (set ∷ outer) d'.world
+store_guarded program set outer w (Ok m) (Ok x) d' g e kept = let same : driver program (with_memory w m) ≡ d' = cc in subst (λ (d : Driven). IsGuarded (set ∷ outer) d.world) same (guarded_with set outer w m g)
+store_guarded program set outer w (Ok m) (Err kind) d' g e kept = absurd (cc e)
+store_guarded program set outer w (Err kind) (Ok x) d' g e kept = absurd (cc e)
+store_guarded program set outer w (Err kind) (Err kind') d' g e kept = subst (λ (d : Driven). IsGuarded (set ∷ outer) d.world) (sym kept) g
 
 -- ---- first cells that are in the set
 
@@ -174,63 +179,165 @@ none_out true true = refl
 none_out true false = refl
 none_out false y = refl
 
-module _ (program : Program) (set : List Cell) (w : World) (serial : ℕ) (n : Integer) where
+module _ (program : Program) (set : List Cell) (outer : List (List Cell)) (w : World) (serial : ℕ) (n : Integer) where
   first_in : is_in cells set (record { serial = serial; index = 0 }) ≡ true → (v : WireView) → IsFirst serial v → is_kept_out set w.memory (wire.Ptr v) ≡ false
   first_in has v f =
       let start : v.first + v.index ≡ 0 = omega (arith, f.first, f.index) in
       let here : is_in cells set (cell_of v) ≡ true = (λ i. is_in cells set (record { serial = f.block i; index = start i })) ∙ has in
       ap (λ b. is_live w.memory v.serial && (nat_lt v.index v.count && not b)) here ∙ none_out _ _
 
-  pub first_goes : (g : Driven) → driver program (viewed set w) ≡ g → is_in cells set (record { serial = serial; index = 0 }) ≡ true → FirstIs driven_accesses (driver program w) serial n → FirstIs guarded_accesses g serial n
-  first_goes g is has e v f = sym (load_goes program set w g is (wire.Ptr v) (first_in has v f)) ∙ e v f
+  pub first_goes : (g : Driven) → driver program (viewed (set ∷ outer) w) ≡ g → is_in cells set (record { serial = serial; index = 0 }) ≡ true → FirstIs driven_accesses (driver program w) serial n → FirstIs guarded_accesses g serial n
+  first_goes g is has e v f = sym (load_goes program set outer w g is (wire.Ptr v) (first_in has v f)) ∙ e v f
 
-  pub put_goes : (g : Driven) → driver program (viewed set w) ≡ g → is_in cells set (record { serial = serial; index = 0 }) ≡ true → (d' : Driven) → FirstBecomes driven_accesses (driver program w) serial n d'
-      → FirstBecomes guarded_accesses g serial n (driver d'.program (viewed set d'.world))
-  put_goes g is has d' e v f = store_goes program set w g is (wire.Ptr v) (integer_wire n) (first_in has v f) (Ok tt) d' (e v f)
+  pub put_goes : (g : Driven) → driver program (viewed (set ∷ outer) w) ≡ g → is_in cells set (record { serial = serial; index = 0 }) ≡ true → (d' : Driven) → FirstBecomes driven_accesses (driver program w) serial n d'
+      → FirstBecomes guarded_accesses g serial n (driver d'.program (viewed (set ∷ outer) d'.world))
+  put_goes g is has d' e v f = store_goes program set outer w g is (wire.Ptr v) (integer_wire n) (first_in has v f) (Ok tt) d' (e v f)
 
-  pub put_guarded : (done : Bool) (d' : Driven) → IsGuarded set w → (done ≡ true → FirstBecomes driven_accesses (driver program w) serial n d') → (done ≡ false → d' ≡ driver program w) → IsGuarded set d'.world
+  pub put_guarded : (done : Bool) (d' : Driven) → IsGuarded (set ∷ outer) w → (done ≡ true → FirstBecomes driven_accesses (driver program w) serial n d') → (done ≡ false → d' ≡ driver program w) → IsGuarded (set ∷ outer) d'.world
   put_guarded true d' g put kept =
-      store_guarded program set w (stored everywhere w.memory (wire.Ptr (at_first serial)) (integer_wire n)) (Ok tt) d' g (put refl (at_first serial) (record { block = refl; first = refl; index = refl; some = omega arith })) tt
-  put_guarded false d' g put kept = subst (λ (d : Driven). IsGuarded set d.world) (sym (kept refl)) g
+      store_guarded program set outer w (stored everywhere w.memory (wire.Ptr (at_first serial)) (integer_wire n)) (Ok tt) d' g (put refl (at_first serial) (record { block = refl; first = refl; index = refl; some = omega arith })) tt
+  put_guarded false d' g put kept = subst (λ (d : Driven). IsGuarded (set ∷ outer) d.world) (sym (kept refl)) g
 
 -- births leave it too
-module _ (program : Program) (set : List Cell) (w : World) (shapes : List Shape64) (g : IsGuarded set w) where
-  birth_goes : births program Auto shapes (viewed set w) ≡ viewed_born set (births program Auto shapes w)
-  birth_goes = births_viewed program Auto shapes set w g.older
+module _ (program : Program) (set : List Cell) (outer : List (List Cell)) (w : World) (shapes : List Shape64) (g : IsGuarded (set ∷ outer) w) where
+  birth_goes : births program Auto shapes (viewed (set ∷ outer) w) ≡ viewed_born (set ∷ outer) (births program Auto shapes w)
+  birth_goes = births_viewed program Auto shapes (set ∷ outer) w g.older
 
-  pub birth_points : (driven_accesses.birth (driver program w) shapes).pointers ≡ (guarded_accesses.birth (driver program (viewed set w)) shapes).pointers
+  pub birth_points : (driven_accesses.birth (driver program w) shapes).pointers ≡ (guarded_accesses.birth (driver program (viewed (set ∷ outer) w)) shapes).pointers
   birth_points = sym (ap (λ (b : Born World). b.pointers) birth_goes)
 
-  pub birth_leaves : (d' : Driven) → d' ≡ (driven_accesses.birth (driver program w) shapes).memory → driver d'.program (viewed set d'.world) ≡ (guarded_accesses.birth (driver program (viewed set w)) shapes).memory
-  birth_leaves d' e = ap (λ (d : Driven). driver d.program (viewed set d.world)) e ∙ sym (ap (λ (b : Born World). driver program b.memory) birth_goes)
+  pub birth_leaves : (d' : Driven) → d' ≡ (driven_accesses.birth (driver program w) shapes).memory → driver d'.program (viewed (set ∷ outer) d'.world) ≡ (guarded_accesses.birth (driver program (viewed (set ∷ outer) w)) shapes).memory
+  birth_leaves d' e = ap (λ (d : Driven). driver d.program (viewed (set ∷ outer) d.world)) e ∙ sym (ap (λ (b : Born World). driver program b.memory) birth_goes)
 
-  pub birth_guarded : (d' : Driven) → d' ≡ (driven_accesses.birth (driver program w) shapes).memory → IsGuarded set d'.world
-  birth_guarded d' e = subst (λ (d : Driven). IsGuarded set d.world) (sym e) (record {
+  pub birth_guarded : (d' : Driven) → d' ≡ (driven_accesses.birth (driver program w) shapes).memory → IsGuarded (set ∷ outer) d'.world
+  birth_guarded d' e = subst (λ (d : Driven). IsGuarded (set ∷ outer) d.world) (sym e) (record {
     upcall = births_are_viewed.upcall_born program Auto shapes w g.upcall;
-    older = births_are_viewed.older_born program Auto shapes set w g.older;
+    older = births_are_viewed.older_born program Auto shapes (set ∷ outer) w g.older;
   })
 
-pub death_guarded : (set : List Cell) (w : World) (ps : List Wire) → IsGuarded set w → IsGuarded set (deaths ps w)
-death_guarded set w ps g = let b = deaths_keep (IsBeside set) (beside_kept set) ps w (record { upcall = g.upcall; older = g.older }) in record { upcall = b.upcall; older = b.older }
+pub death_guarded : (set : List Cell) (outer : List (List Cell)) (w : World) (ps : List Wire) → IsGuarded (set ∷ outer) w → IsGuarded (set ∷ outer) (deaths ps w)
+death_guarded set outer w ps g = let b = deaths_keep (IsBeside (set ∷ outer)) (beside_kept (set ∷ outer)) ps w (record { upcall = g.upcall; older = g.older; some = refl }) in record { upcall = b.upcall; older = b.older }
 
-pub tick_goes : (set : List Cell) (t : Bool) (d d' : Driven) → Ticks t d d' → Ticks t (driver d.program (viewed set d.world)) (driver d'.program (viewed set d'.world))
-tick_goes set true d d' t = (t.0, t.1, ap (λ (x : Driven). driver x.program (viewed set x.world)) t.2)
-tick_goes set false d d' t = (t.0, ap (λ (x : Driven). driver x.program (viewed set x.world)) t.1)
+pub tick_goes : (set : List Cell) (outer : List (List Cell)) (t : Bool) (d d' : Driven) → Ticks t d d' → Ticks t (driver d.program (viewed (set ∷ outer) d.world)) (driver d'.program (viewed (set ∷ outer) d'.world))
+tick_goes set outer true d d' t = (t.0, t.1, ap (λ (x : Driven). driver x.program (viewed (set ∷ outer) x.world)) t.2)
+tick_goes set outer false d d' t = (t.0, ap (λ (x : Driven). driver x.program (viewed (set ∷ outer) x.world)) t.1)
 
-pub tick_guarded : (set : List Cell) (t : Bool) (d d' : Driven) → Ticks t d d' → IsGuarded set d.world → IsGuarded set d'.world
-tick_guarded set true d d' t g = subst (λ (x : Driven). IsGuarded set x.world) (sym t.2) (record { upcall = g.upcall; older = g.older })
-tick_guarded set false d d' t g = subst (λ (x : Driven). IsGuarded set x.world) (sym t.1) g
+pub tick_guarded : (set : List Cell) (outer : List (List Cell)) (t : Bool) (d d' : Driven) → Ticks t d d' → IsGuarded (set ∷ outer) d.world → IsGuarded (set ∷ outer) d'.world
+tick_guarded set outer true d d' t g = subst (λ (x : Driven). IsGuarded (set ∷ outer) x.world) (sym t.2) (record { upcall = g.upcall; older = g.older })
+tick_guarded set outer false d d' t g = subst (λ (x : Driven). IsGuarded (set ∷ outer) x.world) (sym t.1) g
 
--- an empty set stands beside any world in which an upcall is open
-pub forgotten : (set : List Cell) (d d' : Driven) → set ≡ [] → d' ≡ driver d.program (record d.world { views = open_views true }) → IsGuarded set d'.world
-forgotten set d d' none is = record {
+-- an empty set stands alone beside any world in which an upcall is open
+pub forgotten : (set : List Cell) (outer : List (List Cell)) (d d' : Driven) → set ≡ [] → outer ≡ [] → d' ≡ driver d.program (record d.world { views = open_views true }) → IsGuarded (set ∷ outer) d'.world
+forgotten set outer d d' none alone is = record {
   upcall = ap (λ (x : Driven). are_none x.world.views) is;
-  older = λ c h. absurd (none_in cells c (sym (ap (λ s. is_in cells s c) none) ∙ h));
+  older = ((λ c h. absurd (none_in cells c (sym (ap (λ s. is_in cells s c) none) ∙ h))), subst (λ sets. AreOlder sets d'.world) (sym alone) tt);
 }
 
 -- an upcall opens with a set
-pub open_goes : (program : Program) (set : List Cell) (w : World) → w.views ≡ [] → AreLive w.memory set → (d' : Driven) → d' ≡ driver program (record w { views = open_views true }) → driver d'.program (viewed set d'.world) ≡ driver program (opened set w)
-open_goes program set w none live d' e = ap (λ (d : Driven). driver d.program (viewed set d.world)) e ∙ ap (driver program) (sym (sets_are_viewed.opens set w none live))
+pub open_goes : (program : Program) (set : List Cell) (w : World) → w.views ≡ [] → AreLive w.memory set → (d' : Driven) → d' ≡ driver program (record w { views = open_views true }) → driver d'.program (viewed (set ∷ []) d'.world) ≡ driver program (opened set w)
+open_goes program set w none live d' e = ap (λ (d : Driven). driver d.program (viewed (set ∷ []) d.world)) e ∙ ap (driver program) (sym (sets_are_viewed.opens set w none live))
+
+pub open_guarded : (program : Program) (set : List Cell) (outer : List (List Cell)) (w : World) (d' : Driven) → outer ≡ [] → IsOlder set w → d' ≡ driver program (record w { views = open_views true }) → IsGuarded (set ∷ reverse outer) d'.world
+open_guarded program set outer w d' none older is = record {
+  upcall = ap (λ (x : Driven). are_none x.world.views) is;
+  older = (subst (λ (x : Driven). IsOlder set x.world) (sym is) older, subst (λ sets. AreOlder (reverse sets) d'.world) (sym none) tt);
+}
+
+-- one opens over others
+pub over_goes : (program : Program) (set : List Cell) (outer : List (List Cell)) (w : World) → AreLive w.memory set → driver program (viewed (set ∷ outer) w) ≡ driver program (opened set (viewed outer w))
+over_goes program set outer w live = ap (driver program) (sym (sets_are_viewed.opens_over set outer w live))
+
+-- ---- sets within one another
+
+-- the last of those outside is the innermost of them
+last_first : (outer rest : List (List Cell)) (last : List Cell) → outer ≡ rest ++ last ∷ [] → reverse outer ≡ last ∷ reverse rest
+last_first outer rest last split = ap reverse split ∙ reverse-append rest (last ∷ [])
+
+pub one_over : (set inner : List Cell) (outer outer' : List (List Cell)) → outer' ≡ outer ++ inner ∷ [] → set ∷ reverse outer' ≡ set ∷ inner ∷ reverse outer
+one_over set inner outer outer' split = ap (λ sets. set ∷ sets) (last_first outer' outer inner split)
+
+-- none is left
+no_first : (xs : List (List Cell)) → take zero xs ≡ []
+no_first [] = refl
+no_first (x ∷ xs) = refl
+
+pub none_outside : (xs rest : List (List Cell)) (size : ℕ) → xs ≡ rest ++ [] → rest ≡ take (size - 1) xs → size ≡ 0 → xs ≡ []
+none_outside xs rest size last behind empty = last ∙ append-nil rest ∙ behind ∙ ap (λ n. take (n - 1) xs) empty ∙ no_first xs
+
+module _ (program : Program) (inner : List Cell) (outer : List (List Cell)) (w : World) (d : Driven) (is : driver program (viewed (inner ∷ reverse outer) w) ≡ d) where
+  -- how many there are
+  pub one_and : suc (length outer) ≡ length d.world.views
+  one_and = ap suc (sym (length-map (reverse outer) (living w.memory) ∙ length-reverse outer)) ∙ ap (λ (x : Driven). length x.world.views) is
+
+  -- the innermost is gone, and the next one is the innermost, or none is left
+  pub close_under : (rest : List (List Cell)) (last : List Cell) → outer ≡ rest ++ last ∷ [] → IsClosed d (closing.Under (driver program (viewed (last ∷ reverse rest) w)))
+  close_under rest last split = subst (λ (x : Driven). IsClosed x (closing.Under (driver program (viewed (last ∷ reverse rest) w)))) is (
+    ap (λ sets. driver program (viewed sets w)) (sym (last_first outer rest last split)),
+    length (map (living w.memory) (reverse rest)),
+    ap (λ sets. suc (length (map (living w.memory) sets))) (last_first outer rest last split),
+  )
+
+  pub close_last : (d' : Driven) → outer ≡ [] → d' ≡ driver program (record w { views = open_views false }) → IsClosed d (closing.Last d')
+  close_last d' none gone = subst (λ (x : Driven). IsClosed x (closing.Last d')) is (
+    gone ∙ ap (λ sets. driver program (viewed (reverse sets) w)) (sym none),
+    ap (λ (x : Driven). x.world.views) gone,
+  )
+
+  -- the sets that are under it stay older
+  pub under_guarded : (rest : List (List Cell)) (last : List Cell) → outer ≡ rest ++ last ∷ [] → IsGuarded (inner ∷ reverse outer) w → IsGuarded (last ∷ reverse rest) w
+  under_guarded rest last split g = record { upcall = g.upcall; older = subst (λ sets. AreOlder sets w) (last_first outer rest last split) g.older.1 }
+
+  pub left_all : (d' : Driven) → d' ≡ driver program (record w { views = open_views false }) → d' ≡ driver d.program (with_views [] d.world)
+  left_all d' gone = gone ∙ ap (λ (x : Driven). driver x.program (with_views [] x.world)) is
+
+  -- one opens over them
+  module _ (set : List Cell) where
+    pub over_is : (sets : List (List Cell)) → sets ≡ set ∷ inner ∷ reverse outer → AreLive d.world.memory set → driver program (viewed sets w) ≡ driver d.program (opened set d.world)
+    over_is sets are live =
+        ap (λ x. driver program (viewed x w)) are
+        ∙ over_goes program set (inner ∷ reverse outer) w (subst (λ (x : Driven). AreLive x.world.memory set) (sym is) live)
+        ∙ ap (λ (x : Driven). driver x.program (opened set x.world)) is
+
+    pub over_guarded : (sets : List (List Cell)) → sets ≡ set ∷ inner ∷ reverse outer → IsOlder set d.world → IsGuarded (inner ∷ reverse outer) w → IsGuarded sets w
+    over_guarded sets are older g = subst (λ x. IsGuarded x w) (sym are) (record {
+      upcall = g.upcall;
+      older = (subst (λ (x : Driven). IsOlder set x.world) (sym is) older, g.older);
+    })
+
+two_open : (views : List (List Cell)) (n : ℕ) → length views ≡ suc (suc n) → below views ≡ [] → ⊥
+two_open [] n e none = omega (arith, e)
+two_open (set ∷ []) n e none = omega (arith, e)
+two_open (set ∷ under ∷ sets) n e none = let h : under ∷ sets ≡ [] = none in cc h
+
+-- where one upcall is open, none is under it
+pub not_under : (d : Driven) (x : Closing) (g : Driven) → x ≡ closing.Under g → IsClosed d x → length d.world.views ≡ 1 → ⊥
+not_under d x g is c one =
+    let u : IsClosed d (closing.Under g) = subst (λ y. IsClosed d y) is c in
+    let more : length d.world.views ≡ suc (suc u.1) = u.2 in
+    let one_is : length d.world.views ≡ 1 = one in
+    omega (arith, more, one_is)
+
+-- and where more are, it isn't the last
+pub not_last : (d : Driven) (x : Closing) (w : Driven) (n : ℕ) → x ≡ closing.Last w → IsClosed d x → length d.world.views ≡ suc (suc n) → ⊥
+not_last d x w n is c more =
+    let l : IsClosed d (closing.Last w) = subst (λ y. IsClosed d y) is c in
+    two_open d.world.views n more (sym (ap (λ (y : Driven). y.world.views) l.0) ∙ l.1)
+
+pub is_last : (d : Driven) (x : Closing) (w : Driven) → x ≡ closing.Last w → IsClosed d x → IsClosed d (closing.Last w)
+is_last d x w is c = subst (λ y. IsClosed d y) is c
+
+pub is_under : (d : Driven) (x : Closing) (g : Driven) → x ≡ closing.Under g → IsClosed d x → IsClosed d (closing.Under g)
+is_under d x g is c = subst (λ y. IsClosed d y) is c
+
+-- as many are open as before
+pub stays_open : (old new : Sets) (w w1 gd : Driven) → driver w.program (viewed (sets_of old) w.world) ≡ gd → new.outer ≡ old.outer → w1.world.clock.rest ≤ w.world.clock.rest → StaysOpen gd.world (viewed (sets_of new) w1.world)
+stays_open old new w w1 gd is same spent = subst (λ (d : Driven). StaysOpen d.world (viewed (sets_of new) w1.world)) is (record {
+  sets =
+      length-map (sets_of new) (living w1.world.memory)
+      ∙ ap (λ sets. suc (length (reverse sets))) same
+      ∙ sym (length-map (sets_of old) (living w.world.memory));
+  spent = spent;
+})
 
 -- ---- neighbours that are in the set
 

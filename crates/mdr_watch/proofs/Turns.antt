@@ -48,8 +48,8 @@ use Rattle.mdr_world.specs.Driven.{Driven, Ticks}
 use Rattle.mdr_world.proofs.WalkLaws.{drivers_walk}
 use Rattle.mdr_whole.specs.declared.ending.Gave.{Gave}
 use Rattle.mdr_whole.specs.declared.ending.Gave.TheVariants as gave
-use Rattle.mdr_whole.specs.declared.next.Next.{Next}
-use Rattle.mdr_whole.specs.declared.next.Next.TheVariants as next
+use Rattle.mdr_watch.specs.declared.next.Next.{Next}
+use Rattle.mdr_watch.specs.declared.next.Next.TheVariants as next
 use Rattle.mdr_whole.specs.Ending.{gave_as}
 use Rattle.mdr_whole.specs.Going.{Counted}
 use Rattle.mdr_watch.specs.declared.watch.Upcall.{Upcall}

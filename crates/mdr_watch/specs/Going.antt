@@ -18,8 +18,8 @@ use Rattle.mdr_plain.specs.Running.{nothing}
 use Rattle.mdr_plain.specs.World.{World, Ran}
 use Rattle.mdr_runs.specs.Around.{StandsIn, answered_in, goes_on_in}
 use Rattle.mdr_world.specs.Driven.{Driven}
-use Rattle.mdr_whole.specs.declared.next.Next.{Next}
-use Rattle.mdr_whole.specs.declared.next.Next.TheVariants as next
+use Rattle.mdr_watch.specs.declared.next.Next.{Next}
+use Rattle.mdr_watch.specs.declared.next.Next.TheVariants as next
 use Rattle.mdr_whole.specs.Ending.{gave_as}
 use Rattle.mdr_whole.specs.Going.{Counted}
 use Rattle.mdr_watch.specs.declared.watch.Upcall.{Upcall}

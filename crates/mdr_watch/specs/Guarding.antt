@@ -1,6 +1,6 @@
 -- protocol
 -- Memory that is held to a set of cells.
-use Rattle.std.specs.Prelude.{ℕ, ◌+◌, Bool, false, not, ◌&&◌, List, nat_le, nat_lt}
+use Rattle.std.specs.Prelude.{◌≡◌, ◌≤◌, ℕ, ◌+◌, Bool, false, not, ◌&&◌, List, ◌∷◌, length, reverse, nat_le, nat_lt}
 use Rattle.std.specs.List.{list_all}
 use Rattle.mdr_extents.specs.CellOrder.{cells}
 use Rattle.mdr_meaning.specs.declared.wire.Wire.{Wire}
@@ -11,18 +11,32 @@ use Rattle.mdr_model.specs.Memory.{Memory, cell_of, is_live}
 use Rattle.mdr_paths.specs.Paths.{is_in}
 use Rattle.mdr_plain.specs.Storage.{cells_read}
 use Rattle.mdr_plain.specs.World.{World}
-use Rattle.mdr_viewed.specs.Viewed.{HasUpcall, IsOlder}
+use Rattle.mdr_viewed.specs.Viewed.{AreOlder, HasUpcall, viewed}
+use Rattle.mdr_watch.specs.declared.sets.Sets.{Sets}
 use Rattle.mdr_watched.specs.Views.{may_touch}
-use Rattle.mdr_world.specs.Driven.{Driven, driven_by}
+use Rattle.mdr_world.specs.Driven.{Driven, driven_by, driver}
 
 -- accesses of user code
 abbrev pub guarded_accesses : Accesses Driven
 guarded_accesses = driven_by may_touch
 
--- a set beside a world in which an upcall is open: its cells are of blocks that were born before
-pub record IsGuarded (set : List Cell) (w : World) : Type 0 where
+-- the sets of the upcalls that are open, the innermost first
+abbrev pub sets_of : Sets → List (List Cell)
+sets_of s = s.inner ∷ reverse s.outer
+
+-- the state of a run beside which they are
+abbrev pub beside : Driven → Sets → Driven
+beside d s = driver d.program (viewed (sets_of s) d.world)
+
+-- sets beside a world in which an upcall is open: their cells are of blocks that were born before
+pub record IsGuarded (sets : List (List Cell)) (w : World) : Type 0 where
   pub upcall : HasUpcall w
-  pub older : IsOlder set w
+  pub older : AreOlder sets w
+
+-- as many upcalls are open as before, and no more ticks are left
+pub record StaysOpen (old new : World) : Type 0 where
+  pub sets : length new.views ≡ length old.views
+  pub spent : new.clock.rest ≤ old.clock.rest
 
 -- an access stops for the set: its block lives and its index is in range, but its cell isn't in the set
 abbrev pub is_kept_out : List Cell → Memory → Wire → Bool

@@ -1,16 +1,20 @@
 -- protocol
 -- What work in a watched run comes to. Where it stopped a set may be left in the world, of which nothing is shown.
-use Rattle.std.specs.Prelude.{◌≡◌, List}
+use Rattle.std.specs.Prelude.{◌≡◌, ℕ, suc, List, [], length}
 use Rattle.mdr_meaning.specs.declared.wire.Wire.{Wire}
 use Rattle.mdr_meaning.specs.Values.{wire_of}
 use Rattle.mdr_model.specs.declared.memory.Cell.{Cell}
 use Rattle.mdr_plain.specs.Scripts.{Finish}
 use Rattle.mdr_plain.specs.World.{World, Ran, Ended, Stopped, Work, done}
+use Rattle.mdr_watched.specs.Views.{closed}
+use Rattle.mdr_world.specs.Driven.{Driven, driver}
 use Rattle.mdr_whole.specs.declared.ending.Gave.{Gave}
 use Rattle.mdr_whole.specs.declared.ending.Gave.TheVariants as gave
 use Rattle.mdr_whole.specs.declared.ending.Worked.{Worked}
 use Rattle.mdr_whole.specs.declared.ending.Worked.TheVariants as worked
 use Rattle.mdr_whole.specs.Ending.{end_of}
+use Rattle.mdr_watch.specs.declared.guarded.Closing.{Closing}
+use Rattle.mdr_watch.specs.declared.guarded.Closing.TheVariants as closing
 
 -- the world with these sets
 abbrev pub with_views : List (List Cell) → World → World
@@ -20,6 +24,16 @@ with_views views w = record w { views = views }
 abbrev pub GaveFor : Gave → World → Ran Wire → Type 0
 GaveFor (gave.Value v) w ran = Ended (wire_of v) w ≡ ran
 GaveFor (gave.Stopped kind at) w ran = (views : List (List Cell)) × (◌≡◌ {A = Ran Wire} (Stopped kind at (with_views views w)) ran)
+
+-- the innermost upcall is over, and was the last, or there is one around it
+abbrev pub IsClosed : Driven → Closing → Type 0
+IsClosed d (closing.Last w) = (w ≡ driver d.program (closed d.world)) × (w.world.views ≡ [])
+IsClosed d (closing.Under g) = (g ≡ driver d.program (closed d.world)) × (n : ℕ) × (length d.world.views ≡ suc (suc n))
+
+-- where a call gave a value one upcall is open
+abbrev pub IsOnly : Gave → World → Type 0
+IsOnly (gave.Value v) w = length w.views ≡ 1
+IsOnly (gave.Stopped kind at) w = Unit {0}
 
 -- what work that has no result came to
 abbrev pub WorkedFor : Worked → World → Work → Type 0

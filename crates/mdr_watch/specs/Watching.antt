@@ -1,6 +1,6 @@
 -- protocol
 -- The driver that is watched.
-use Rattle.std.specs.Prelude.{◌≡◌, true, false, length, ℕ, List, [], Some, Result, is_some, slice_get}
+use Rattle.std.specs.Prelude.{◌≡◌, ◌≤◌, true, false, length, reverse, ℕ, suc, List, [], Some, Result, is_some, slice_get}
 use Rattle.mdr_core.specs.declared.plan.Key.{Key}
 use Rattle.mdr_bound.specs.declared.bound.Bound.{Bound}
 use Rattle.mdr_core.specs.declared.plan.Plan.{Plan}
@@ -16,12 +16,18 @@ use Rattle.mdr_meaning.specs.Sides.{Side}
 use Rattle.mdr_model.specs.declared.command.Command.{Command}
 use Rattle.mdr_model.specs.declared.command.Command.TheVariants as command
 use Rattle.mdr_model.specs.declared.memory.Cell.{Cell}
-use Rattle.mdr_plain.specs.Running.{Setting}
+use Rattle.mdr_meaning.specs.Bodies.{started}
+use Rattle.mdr_meaning.specs.Tree.{Tree}
+use Rattle.mdr_plain.specs.Running.{Setting, Went as AnyWent, interrupts}
 use Rattle.mdr_plain.specs.Scripts.{Finish, commands, first_world}
 use Rattle.mdr_plain.specs.World.{World, Ran}
-use Rattle.mdr_viewed.specs.Laws.{returns}
+use Rattle.mdr_viewed.specs.Laws.{kernel_goes, returns}
 use Rattle.mdr_watched.specs.Driver.{Driver, driver_of, entry_roots, is_user, touched_by}
-use Rattle.mdr_watched.specs.Watched.{does_with, downcall, entered, held, in_user, may_not, serves}
+use Rattle.mdr_watched.specs.Watched.{does_with, downcall, entered, held, in_user, kernel_of, may_not, returns_to, serves}
+use Rattle.mdr_whole.specs.declared.paused.Paused.{Paused}
+use Rattle.mdr_whole.specs.declared.paused.Went.{Went}
+use Rattle.mdr_whole.specs.Pausing.{awaited, went_as}
+use Rattle.mdr_watch.specs.declared.sets.Sets.{Sets}
 use Rattle.mdr_watch.specs.declared.watch.Upcall.{Upcall}
 use Rattle.mdr_watch.specs.declared.watch.Watch.{Watch}
 
@@ -44,6 +50,14 @@ IsKernel plan (command.Show g) = Unit {0}
 IsKernel plan (command.Poke serial index n) = Unit {0}
 IsKernel plan (command.Say text) = Unit {0}
 
+-- a command in which no function is called
+abbrev pub IsNoCall : Command → Type 0
+IsNoCall (command.Call f args) = ⊥
+IsNoCall (command.Idle n) = Unit {0}
+IsNoCall (command.Show g) = Unit {0}
+IsNoCall (command.Poke serial index n) = Unit {0}
+IsNoCall (command.Say text) = Unit {0}
+
 -- the bodies of the user half, and what stands around them in an upcall
 abbrev pub user_side : Upcall → Side
 user_side u = (driver_in u.watch).user
@@ -59,8 +73,26 @@ serves_in u asked w = serves (driver_in u.watch) (held (driver_in u.watch)) u.fu
 abbrev pub downcalls_in : Upcall → Crossing → World → Ran Wire
 downcalls_in u c w = downcall (driver_in u.watch) (held (driver_in u.watch)) u.func may_not c.at c.func (wires_of c.args) c.depth w
 
-abbrev pub returns_in : Upcall → List Cell → Crossing → (sent : List Wire) → Wire → World → Ran Wire
-returns_in u set c sent v w = returns (driver_in u.watch) u.func set c.at c.func sent v w
+abbrev pub returns_in : Upcall → Sets → Crossing → (sent : List Wire) → Wire → World → Ran Wire
+returns_in u s c sent v w = returns (driver_in u.watch) u.func s.inner (reverse s.outer) c.at c.func sent v w
+
+-- its call with these arguments gave a result
+abbrev pub comes_back : Upcall → Crossing → Wire → World → Ran Wire
+comes_back u c v w = returns_to (driver_in u.watch) (held (driver_in u.watch)) u.func c.at c.func (wires_of c.args) v w
+
+-- what code of the kernel half came to, how far its tree goes, and how far it goes where it is called and where it goes on with a value
+abbrev pub came_below : Watch → Went → World → AnyWent
+came_below watch g w = went_as watch.program.now (driver_in watch).kernel g w
+
+abbrev pub kernel_went : Watch → Tree → World → AnyWent
+kernel_went watch t w = kernel_goes (driver_in watch) (interrupts (kernel_of (driver_in watch))) t w
+
+abbrev pub enters_below : Watch → Crossing → World → AnyWent
+enters_below watch c w = kernel_went watch (started (driver_in watch).kernel (suc w.clock.rest) c.func (wires_of c.args) c.depth Tree.Idle) w
+
+-- up to the ticks that were left, or to more
+abbrev pub WentBelow : Watch → Paused → Wire → (old : World) → Went → (new : World) → Type 0
+WentBelow watch p v w g w' = (rest : ℕ) → w.clock.rest ≤ rest → came_below watch g w' ≡ kernel_went watch (awaited watch.program.now (driver_in watch).kernel p rest v) w
 
 -- the set with which it begins, and what it does with a set
 abbrev pub begins_with : Upcall → (args : List Wire) → World → Result (List Cell) Failing

@@ -8,10 +8,11 @@ ghost use Rattle.mdr_services.specs.Serving.{served_as};
 ghost use Rattle.mdr_viewed.specs.Viewed.{viewed};
 ghost use Rattle.mdr_watched.specs.Driver.{touched_by};
 ghost use Rattle.mdr_watched.specs.Views.{new_cells};
-ghost use Rattle.mdr_watch.specs.Guarding.{IsGuarded};
+ghost use Rattle.mdr_watch.specs.Guarding.{IsGuarded, StaysOpen, sets_of};
 ghost use Rattle.mdr_watch.specs.Watching.{serves_in};
 
 use crate::guarded::{Guarded, forget};
+use crate::sets::Sets;
 use crate::watch::{Upcall, touched};
 use mdr_cells::CellSet;
 use mdr_core::OutOfMemory;
@@ -42,26 +43,28 @@ fn gain(
     Ok(())
 }
 
-/// A service is served in a world beside a set, which the cells of what is born join.
+/// A service is served in a world beside sets, of which the innermost gains the cells of what is born.
 fn serve_beside(
     alloc: Global,
     upcall: Upcall,
     world: &mut World,
-    set: &mut CellSet,
+    sets: &mut Sets,
     asked: &Asked,
 ) -> Result<Served, OutOfMemory>
     requires sound { IsSound upcall.watch.program.now }
     requires same { world.old.program ≡ upcall.watch.program.now }
-    requires guarded { IsGuarded set.old world.old.world }
+    requires guarded { IsGuarded (sets_of sets.old) world.old.world }
     ensures kept { OnOk result (world.new.program ≡ upcall.entry.watch.program.now) }
-    ensures guarded { OnOk result (IsGuarded set.new world.new.world) }
-    ensures served { IfOk result (λ s. served_as s asked.now.at (viewed set.new world.new.world) ≡ serves_in upcall.entry asked.now (viewed set.old world.old.world)) }
+    ensures guarded { OnOk result (IsGuarded (sets_of sets.new) world.new.world) }
+    ensures outer { OnOk result (sets.new.outer ≡ sets.old.outer) }
+    ensures spent { OnOk result (world.new.world.clock.rest ≤ world.old.world.clock.rest) }
+    ensures served { IfOk result (λ s. served_as s asked.now.at (viewed (sets_of sets.new) world.new.world) ≡ serves_in upcall.entry asked.now (viewed (sets_of sets.old) world.old.world)) }
 {
     let next = world.births();
     let served = serve(alloc, world, asked)?;
     match served {
         Served::Done(results) => {
-            gain(alloc, upcall, world.blocks(), set, next)?;
+            gain(alloc, upcall, world.blocks(), &mut sets.inner, next)?;
             Ok(Served::Done(results))
         }
         Served::Stop(kind) => Ok(Served::Stop(kind)),
@@ -78,12 +81,13 @@ pub fn ask(
     requires sound { IsSound upcall.watch.program.now }
     requires same { guarded.old.program ≡ upcall.watch.program.now }
     ensures kept { OnOk result (guarded.new.program ≡ upcall.entry.watch.program.now) }
+    ensures stays { OnOk result (StaysOpen guarded.old.world guarded.new.world) }
     ensures served { IfOk result (λ s. served_as s asked.now.at guarded.new.world ≡ serves_in upcall.entry asked.now guarded.old.world) }
 {
-    match serve_beside(alloc, upcall, &mut guarded.world, &mut guarded.set, asked) {
+    match serve_beside(alloc, upcall, &mut guarded.world, &mut guarded.sets, asked) {
         Ok(served) => Ok(served),
         Err(error) => {
-            forget(alloc, &mut guarded.world, &mut guarded.set);
+            forget(alloc, &mut guarded.world, &mut guarded.sets);
             Err(error)
         }
     }

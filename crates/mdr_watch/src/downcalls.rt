@@ -1,28 +1,29 @@
 // Calls of user code that cross to the kernel half.
 
-ghost use Rattle.std.specs.Prelude.{◌≡◌, IfOk, OnOk, map};
+ghost use Rattle.std.specs.Prelude.{◌≡◌, ◌≤◌, IfOk, OnOk, map};
 ghost use Rattle.mdr_core.specs.Sound.{IsSound};
 ghost use Rattle.mdr_events.specs.Values.{wires_of};
 ghost use Rattle.mdr_meaning.specs.Values.{wire_of};
 ghost use Rattle.mdr_model.specs.Memory.{normal};
-ghost use Rattle.mdr_watch.specs.Guarding.{IsGuarded};
+ghost use Rattle.mdr_watch.specs.Guarding.{IsGuarded, StaysOpen, sets_of};
 ghost use Rattle.mdr_viewed.specs.Viewed.{viewed};
 ghost use Rattle.mdr_whole.specs.Ending.{gave_as};
-ghost use Rattle.mdr_watch.specs.Watching.{IsFit, downcalls_in, returns_in};
+ghost use Rattle.mdr_whole.specs.Pausing.{IsPaused, IsWaiting};
+ghost use Rattle.mdr_watch.specs.Watching.{IsFit, WentBelow, came_below, comes_back, downcalls_in, enters_below, returns_in};
 
 use crate::guarded::{Guarded, forget};
 use crate::roots::result_root;
-use crate::watch::{Upcall, kernel_code, touched};
-use mdr_cells::CellSet;
+use crate::sets::Sets;
+use crate::watch::{Upcall, Watch, kernel_code, touched};
 use mdr_core::{Items, OutOfMemory, StopKind, Value};
 use mdr_events::Crossing;
 use mdr_reach::visible;
-use mdr_whole::{Gave, Nothing, call};
+use mdr_whole::{Gave, Nothing, Paused, Went, call, enter, go_on};
 use mdr_world::World;
-use std::alloc::{AllocError, Global};
+use std::alloc::Global;
 
 /// Values as they are now: a pointer whose block has died is a dead one.
-fn sent(alloc: Global, world: &World, args: &[Value]) -> Result<Items<Value>, AllocError>
+pub fn sent(alloc: Global, world: &World, args: &[Value]) -> Result<Items<Value>, OutOfMemory>
     ensures { IfOk result (λ vs. wires_of vs ≡ map (normal world.now.world.memory) (wires_of args.now)) }
 {
     let mut values = Items::new(alloc);
@@ -32,49 +33,55 @@ fn sent(alloc: Global, world: &World, args: &[Value]) -> Result<Items<Value>, Al
     Ok(values)
 }
 
-/// The set is taken anew, from the old one and what a function of the kernel half gave. A failing pointer stops user code.
-fn come_back(
+/// The innermost set is taken anew, from the old one and what a function of the kernel half gave. A failing pointer stops
+/// user code.
+fn take_anew(
     alloc: Global,
     upcall: Upcall,
     world: &World,
-    set: &mut CellSet,
+    sets: &mut Sets,
     crossing: &Crossing,
     sent: &[Value],
     value: Value,
 ) -> Result<Gave, OutOfMemory>
     requires sound { IsSound upcall.watch.program.now }
-    requires guarded { IsGuarded set.old world.now.world }
-    ensures guarded { OnOk result (IsGuarded set.new world.now.world) }
-    ensures gave { IfOk result (λ g. gave_as g (viewed set.new world.now.world) ≡ returns_in upcall.entry set.old crossing.now (wires_of sent.now) (wire_of value) world.now.world) }
+    requires guarded { IsGuarded (sets_of sets.old) world.now.world }
+    ensures guarded { OnOk result (IsGuarded (sets_of sets.new) world.now.world) }
+    ensures outer { OnOk result (sets.new.outer ≡ sets.old.outer) }
+    ensures gave { IfOk result (λ g. gave_as g (viewed (sets_of sets.new) world.now.world) ≡ returns_in upcall.entry sets.old crossing.now (wires_of sent.now) (wire_of value) world.now.world) }
 {
     let program = upcall.watch.program;
     let keys = touched(upcall.watch.plan, upcall.func);
     let roots = result_root(program, crossing.func, value);
-    let taken = visible(alloc, program, keys, world.blocks(), set, &roots, sent)?;
+    let known = &sets.inner;
+    let taken = visible(alloc, program, keys, world.blocks(), known, &roots, sent)?;
     match taken {
         Ok(found) => {
-            *set = found;
+            sets.inner = found;
             Ok(Gave::Value(value))
         }
         Err(_) => Ok(Gave::Stopped(StopKind::Annotation, Some(crossing.at))),
     }
 }
 
-/// A function of the kernel half is called in a world beside a set, and runs in place.
+// ---- to the end
+
+/// A function of the kernel half is called in a world beside sets, and runs in place.
 fn call_beside(
     alloc: Global,
     upcall: Upcall,
     world: &mut World,
-    set: &mut CellSet,
+    sets: &mut Sets,
     crossing: &Crossing,
 ) -> Result<Gave, OutOfMemory>
     requires sound { IsSound upcall.watch.program.now }
     requires fit { IsFit upcall.watch }
     requires same { world.old.program ≡ upcall.watch.program.now }
-    requires guarded { IsGuarded set.old world.old.world }
+    requires guarded { IsGuarded (sets_of sets.old) world.old.world }
     ensures kept { OnOk result (world.new.program ≡ upcall.entry.watch.program.now) }
-    ensures guarded { OnOk result (IsGuarded set.new world.new.world) }
-    ensures gave { IfOk result (λ g. gave_as g (viewed set.new world.new.world) ≡ downcalls_in upcall.entry crossing.now (viewed set.old world.old.world)) }
+    ensures guarded { OnOk result (IsGuarded (sets_of sets.new) world.new.world) }
+    ensures outer { OnOk result (sets.new.outer ≡ sets.old.outer) }
+    ensures gave { IfOk result (λ g. gave_as g (viewed (sets_of sets.new) world.new.world) ≡ downcalls_in upcall.entry crossing.now (viewed (sets_of sets.old) world.old.world)) }
 {
     let _in_order = world.births();
     let old = crossing.args.as_slice();
@@ -83,13 +90,13 @@ fn call_beside(
     let code = kernel_code(upcall.watch);
     let gave = call::<Nothing>(alloc, code, world, crossing.func, values, crossing.depth)?;
     match gave {
-        Gave::Value(value) => come_back(alloc, upcall, world, set, crossing, values, value),
+        Gave::Value(value) => take_anew(alloc, upcall, world, sets, crossing, values, value),
         Gave::Stopped(kind, at) => Ok(Gave::Stopped(kind, at)),
     }
 }
 
-/// A function of the kernel half is called, which runs in place.
-pub fn downcall(
+/// A function of the kernel half is called, which runs in place and calls nothing back.
+pub(crate) fn downcall(
     alloc: Global,
     upcall: Upcall,
     guarded: &mut Guarded,
@@ -105,12 +112,157 @@ pub fn downcall(
         alloc,
         upcall,
         &mut guarded.world,
-        &mut guarded.set,
+        &mut guarded.sets,
         crossing,
     ) {
         Ok(gave) => Ok(gave),
         Err(error) => {
-            forget(alloc, &mut guarded.world, &mut guarded.set);
+            forget(alloc, &mut guarded.world, &mut guarded.sets);
+            Err(error)
+        }
+    }
+}
+
+// ---- up to a call back
+
+/// A function of the kernel half is called in a world beside sets.
+fn enter_beside(
+    alloc: Global,
+    watch: Watch,
+    world: &mut World,
+    sets: &Sets,
+    crossing: &Crossing,
+) -> Result<Went, OutOfMemory>
+    requires sound { IsSound watch.program.now }
+    requires fit { IsFit watch }
+    requires same { world.old.program ≡ watch.program.now }
+    requires guarded { IsGuarded (sets_of sets.now) world.old.world }
+    ensures kept { OnOk result (world.new.program ≡ watch.entry.program.now) }
+    ensures guarded { OnOk result (IsGuarded (sets_of sets.now) world.new.world) }
+    ensures spent { OnOk result (world.new.world.clock.rest ≤ world.old.world.clock.rest) }
+    ensures waiting { IfOk result (IsWaiting watch.entry.program.now) }
+    ensures went { IfOk result (λ g. came_below watch.entry g (viewed (sets_of sets.now) world.new.world) ≡ enters_below watch.entry crossing.now (viewed (sets_of sets.now) world.old.world)) }
+{
+    let _in_order = world.births();
+    let code = kernel_code(watch);
+    let args = crossing.args.as_slice();
+    let went = enter::<Nothing>(alloc, code, world, crossing.func, args, crossing.depth)?;
+    Ok(went)
+}
+
+/// A function of the kernel half is called with these arguments, and runs to its end or up to where it calls back.
+pub fn enter_below(
+    alloc: Global,
+    watch: Watch,
+    guarded: &mut Guarded,
+    crossing: &Crossing,
+) -> Result<Went, OutOfMemory>
+    requires sound { IsSound watch.program.now }
+    requires fit { IsFit watch }
+    requires same { guarded.old.program ≡ watch.program.now }
+    ensures kept { OnOk result (guarded.new.program ≡ watch.entry.program.now) }
+    ensures stays { OnOk result (StaysOpen guarded.old.world guarded.new.world) }
+    ensures waiting { IfOk result (IsWaiting watch.entry.program.now) }
+    ensures went { IfOk result (λ g. came_below watch.entry g guarded.new.world ≡ enters_below watch.entry crossing.now guarded.old.world) }
+{
+    match enter_beside(alloc, watch, &mut guarded.world, &guarded.sets, crossing) {
+        Ok(went) => Ok(went),
+        Err(error) => {
+            forget(alloc, &mut guarded.world, &mut guarded.sets);
+            Err(error)
+        }
+    }
+}
+
+/// Code of the kernel half that waits goes on in a world beside sets.
+fn go_on_beside(
+    alloc: Global,
+    watch: Watch,
+    world: &mut World,
+    sets: &Sets,
+    paused: Paused,
+    value: Value,
+) -> Result<Went, OutOfMemory>
+    requires sound { IsSound watch.program.now }
+    requires fit { IsFit watch }
+    requires same { world.old.program ≡ watch.program.now }
+    requires guarded { IsGuarded (sets_of sets.now) world.old.world }
+    requires waits { IsPaused watch.program.now paused }
+    ensures kept { OnOk result (world.new.program ≡ watch.entry.program.now) }
+    ensures guarded { OnOk result (IsGuarded (sets_of sets.now) world.new.world) }
+    ensures spent { OnOk result (world.new.world.clock.rest ≤ world.old.world.clock.rest) }
+    ensures waiting { IfOk result (IsWaiting watch.entry.program.now) }
+    ensures went { IfOk result (λ g. WentBelow watch.entry paused (wire_of value) (viewed (sets_of sets.now) world.old.world) g (viewed (sets_of sets.now) world.new.world)) }
+{
+    let _in_order = world.births();
+    let code = kernel_code(watch);
+    let went = go_on::<Nothing>(alloc, code, world, paused, value)?;
+    Ok(went)
+}
+
+/// Code of the kernel half that called back goes on with a result.
+pub fn go_on_below(
+    alloc: Global,
+    watch: Watch,
+    guarded: &mut Guarded,
+    paused: Paused,
+    value: Value,
+) -> Result<Went, OutOfMemory>
+    requires sound { IsSound watch.program.now }
+    requires fit { IsFit watch }
+    requires same { guarded.old.program ≡ watch.program.now }
+    requires waits { IsPaused watch.program.now paused }
+    ensures kept { OnOk result (guarded.new.program ≡ watch.entry.program.now) }
+    ensures stays { OnOk result (StaysOpen guarded.old.world guarded.new.world) }
+    ensures waiting { IfOk result (IsWaiting watch.entry.program.now) }
+    ensures went { IfOk result (λ g. WentBelow watch.entry paused (wire_of value) guarded.old.world g guarded.new.world) }
+{
+    match go_on_beside(
+        alloc,
+        watch,
+        &mut guarded.world,
+        &guarded.sets,
+        paused,
+        value,
+    ) {
+        Ok(went) => Ok(went),
+        Err(error) => {
+            forget(alloc, &mut guarded.world, &mut guarded.sets);
+            Err(error)
+        }
+    }
+}
+
+/// Code of the kernel half gave a result to user code, which called it with these arguments: the innermost set is taken
+/// anew.
+pub fn come_back(
+    alloc: Global,
+    upcall: Upcall,
+    guarded: &mut Guarded,
+    crossing: &Crossing,
+    value: Value,
+) -> Result<Gave, OutOfMemory>
+    requires sound { IsSound upcall.watch.program.now }
+    requires same { guarded.old.program ≡ upcall.watch.program.now }
+    ensures kept { OnOk result (guarded.new.program ≡ upcall.entry.watch.program.now) }
+    ensures stays { OnOk result (StaysOpen guarded.old.world guarded.new.world) }
+    ensures gave { IfOk result (λ g. gave_as g guarded.new.world ≡ comes_back upcall.entry crossing.now (wire_of value) guarded.old.world) }
+{
+    let _in_order = guarded.world.births();
+    let args = crossing.args.as_slice();
+    let world = &guarded.world;
+    match take_anew(
+        alloc,
+        upcall,
+        world,
+        &mut guarded.sets,
+        crossing,
+        args,
+        value,
+    ) {
+        Ok(gave) => Ok(gave),
+        Err(error) => {
+            forget(alloc, &mut guarded.world, &mut guarded.sets);
             Err(error)
         }
     }

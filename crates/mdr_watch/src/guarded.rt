@@ -1,18 +1,21 @@
 // The state of a run while a function of the user half is active.
 
-ghost use Rattle.std.specs.Prelude.{◌≡◌, [], IfOk, OnOk};
+ghost use Rattle.std.specs.Prelude.{◌≡◌, [], ◌∷◌, ℕ, suc, length, IfOk, OnOk};
 ghost use Rattle.mdr_events.specs.Values.{wires_of};
 ghost use Rattle.mdr_meaning.specs.Values.{wire_of};
 ghost use Rattle.mdr_model.specs.Memory.{normal};
-ghost use Rattle.mdr_viewed.specs.Viewed.{IsOlder, viewed};
+ghost use Rattle.mdr_plain.specs.Atomic.{is_atomic};
+ghost use Rattle.mdr_viewed.specs.Viewed.{IsOlder};
 ghost use Rattle.mdr_watched.specs.Order.{AreLive};
 ghost use Rattle.mdr_watched.specs.Views.{closed, living, opened, top};
 ghost use Rattle.mdr_world.specs.Driven.{Ticks, driver};
-ghost use Rattle.mdr_watch.specs.Guarding.{IsGuarded, guarded_accesses};
+ghost use Rattle.mdr_watch.specs.Leaving.{IsClosed, with_views};
+ghost use Rattle.mdr_watch.specs.Guarding.{IsGuarded, beside, guarded_accesses, sets_of};
 
 use crate::kept_out::{are_kept_out, is_kept_out};
+use crate::sets::Sets;
 use mdr_cells::CellSet;
-use mdr_core::{Items, StopKind, Value};
+use mdr_core::{Items, OutOfMemory, StopKind, Value};
 use mdr_events::{Integer, Memory};
 use mdr_meaning::Shape64;
 use mdr_world::World;
@@ -20,11 +23,11 @@ use std::alloc::{AllocError, Global};
 use std::marker::Model;
 
 /// The state of a run while a function of the user half is active. What user code may touch stands beside the world: of the
-/// cells of the set those whose blocks live.
+/// cells of the innermost set those whose blocks live.
 #[derive(Drop)]
 pub struct Guarded<'a> {
     pub(crate) world: World<'a>,
-    pub(crate) set: CellSet,
+    pub(crate) sets: Sets,
 }
 
 impl<'a> Model for Guarded<'a> {
@@ -33,69 +36,96 @@ impl<'a> Model for Guarded<'a> {
     ghost use Rattle.mdr_core.specs.contracts.code.Stmt as s;
     ghost use Rattle.mdr_world.specs.Driven.{Driven, driver};
     ghost use Rattle.mdr_viewed.specs.Viewed.{viewed};
-    ghost use Rattle.mdr_watch.specs.Guarding.{IsGuarded};
+    ghost use Rattle.mdr_watch.specs.Guarding.{IsGuarded, sets_of};
 
     ghost Value = { Driven };
 
     ghost coded = { Prim.hlevel (codes, t.the_row.coded, s.the_row.coded) };
 
-    ghost view = { λ s. driver s.world.program (viewed s.set s.world.world) };
+    ghost view = { λ s. driver s.world.program (viewed (sets_of s.sets) s.world.world) };
 
-    ghost invariant = { λ s. IsGuarded s.set s.world.world };
+    ghost invariant = { λ s. IsGuarded (sets_of s.sets) s.world.world };
 }
 
-/// The world and the set beside it.
+/// The world and the sets beside it.
 #[derive(Drop)]
 pub struct Parts<'a> {
     pub world: World<'a>,
-    pub set: CellSet,
+    pub sets: Sets,
 }
 
-/// The set is emptied, and an upcall is open: so a world stands beside it, whatever was left where memory was wanting.
-pub(crate) fn forget(alloc: Global, world: &mut World, set: &mut CellSet)
-    ensures { IsGuarded set.new world.new.world }
+/// What is left where an upcall is over: the world, or the state of the upcall around it.
+#[derive(Drop)]
+pub(crate) enum Closing<'a> {
+    Last(World<'a>),
+    Under(Guarded<'a>),
+}
+
+/// There is one set, which is empty, and an upcall is open: so a world stands beside it, whatever was left where memory was
+/// wanting.
+pub(crate) fn forget(alloc: Global, world: &mut World, sets: &mut Sets)
+    ensures { IsGuarded (sets_of sets.new) world.new.world }
 {
-    *set = CellSet::new(alloc);
+    let inner = CellSet::new(alloc);
+    let outer = Items::new(alloc);
+    *sets = Sets { inner, outer };
     world.enter_user();
 }
 
-/// Objects are born in a world beside a set, whose cells stay.
+/// Objects are born in a world beside sets, whose cells stay.
 fn birth_beside(
     alloc: Global,
     world: &mut World,
-    set: &CellSet,
+    sets: &Sets,
     shapes: &[Shape64],
 ) -> Result<Items<Value>, AllocError>
-    requires { IsGuarded set.now world.old.world }
-    ensures pointers { IfOk result (λ ps. wires_of ps ≡ (guarded_accesses.birth (driver world.old.program (viewed set.now world.old.world)) shapes.now).pointers) }
-    ensures memory { OnOk result (driver world.new.program (viewed set.now world.new.world) ≡ (guarded_accesses.birth (driver world.old.program (viewed set.now world.old.world)) shapes.now).memory) }
-    ensures guarded { OnOk result (IsGuarded set.now world.new.world) }
+    requires { IsGuarded (sets_of sets.now) world.old.world }
+    ensures pointers { IfOk result (λ ps. wires_of ps ≡ (guarded_accesses.birth (beside world.old sets.now) shapes.now).pointers) }
+    ensures memory { OnOk result (beside world.new sets.now ≡ (guarded_accesses.birth (beside world.old sets.now) shapes.now).memory) }
+    ensures guarded { OnOk result (IsGuarded (sets_of sets.now) world.new.world) }
 {
     let pointers = world.birth(alloc, shapes)?;
     Ok(pointers)
 }
 
+/// A set over others.
+fn sets_over(set: CellSet, sets: Sets) -> Result<Sets, OutOfMemory>
+    ensures { IfOk result (λ s. sets_of s ≡ set ∷ sets_of sets) }
+{
+    let Sets { inner, outer } = sets;
+    let mut outer = outer;
+    match outer.push(inner) {
+        Ok(()) => Ok(Sets { inner: set, outer }),
+        Err(error) => {
+            drop(set);
+            drop(outer);
+            Err(error.into())
+        }
+    }
+}
+
 impl<'a> Guarded<'a> {
-    /// A world with a set beside it.
-    pub fn beside(world: World<'a>, set: CellSet) -> Guarded<'a>
-        requires { IsGuarded set world.world }
-        ensures { result ≡ driver world.entry.program (viewed set world.entry.world) }
+    /// A world with sets beside it.
+    pub fn beside(world: World<'a>, sets: Sets) -> Guarded<'a>
+        requires { IsGuarded (sets_of sets) world.world }
+        ensures { result ≡ beside world.entry sets }
     {
-        Guarded { world, set }
+        Guarded { world, sets }
     }
 
-    /// The world and the set.
+    /// The world and the sets.
     pub fn parts(self) -> Parts<'a>
-        ensures is { driver result.world.program (viewed result.set result.world.world) ≡ self.entry }
-        ensures guarded { IsGuarded result.set result.world.world }
+        ensures is { beside result.world result.sets ≡ self.entry }
+        ensures guarded { IsGuarded (sets_of result.sets) result.world.world }
     {
-        let Guarded { world, set } = self;
-        Parts { world, set }
+        let Guarded { world, sets } = self;
+        Parts { world, sets }
     }
 
-    /// Lends the world, in which the set isn't.
+    /// Lends the world, in which the sets aren't.
     pub fn world(&self) -> &World<'a>
         ensures memory { result.now.world.memory ≡ self.now.world.memory }
+        ensures lives { result.now.world.lives ≡ self.now.world.lives }
         ensures clock { result.now.world.clock ≡ self.now.world.clock }
         ensures kept { result.now.world.kept ≡ self.now.world.kept }
         ensures program { result.now.program ≡ self.now.program }
@@ -103,15 +133,29 @@ impl<'a> Guarded<'a> {
         &self.world
     }
 
-    /// Lends the set, in which there may be cells of dead blocks.
+    /// Lends the innermost set, in which there may be cells of dead blocks.
     pub fn set(&self) -> &CellSet
         ensures { living self.now.world.memory result.now ≡ top self.now.world.views }
     {
-        &self.set
+        &self.sets.inner
     }
 
-    /// An upcall opens with a set.
-    pub fn new(world: World<'a>, set: CellSet) -> Guarded<'a>
+    /// How many upcalls are open around the innermost.
+    pub fn below(&self) -> u64
+        ensures { suc result ≡ length self.now.world.views }
+    {
+        self.sets.outer.len() as u64
+    }
+
+    /// Whether what runs now may not sleep.
+    pub fn atomic(&self) -> bool
+        ensures { result ≡ is_atomic self.now.world }
+    {
+        self.world.atomic()
+    }
+
+    /// An upcall opens with a set, while none is open.
+    pub fn new(alloc: Global, world: World<'a>, set: CellSet) -> Guarded<'a>
         requires alone { world.world.views ≡ [] }
         requires live { AreLive world.world.memory set }
         requires older { IsOlder set world.world }
@@ -119,18 +163,83 @@ impl<'a> Guarded<'a> {
     {
         let mut world = world;
         world.enter_user();
-        Guarded { world, set }
+        let sets = Sets {
+            inner: set,
+            outer: Items::new(alloc),
+        };
+        Guarded { world, sets }
     }
 
-    /// It is over.
-    pub fn close(self) -> World<'a>
-        ensures is { result ≡ driver self.entry.program (closed self.entry.world) }
-        ensures alone { result.world.views ≡ [] }
+    /// One opens with a set in another. Where memory is wanting all is gone.
+    pub fn over(self, set: CellSet) -> Result<Guarded<'a>, OutOfMemory>
+        requires live { AreLive self.world.memory set }
+        requires older { IsOlder set self.world }
+        ensures { IfOk result (λ g. g ≡ driver self.entry.program (opened set self.entry.world)) }
     {
-        let Guarded { world, set: _set } = self;
+        let Guarded { world, sets } = self;
+        match sets_over(set, sets) {
+            Ok(sets) => Ok(Guarded { world, sets }),
+            Err(error) => {
+                drop(world);
+                Err(error)
+            }
+        }
+    }
+
+    /// The innermost upcall is over.
+    fn close(self) -> Closing<'a>
+        ensures { IsClosed self.entry result }
+    {
+        let Guarded { world, sets } = self;
+        let Sets { inner, outer } = sets;
+        drop(inner);
+        let mut outer = outer.into_vec();
+        match outer.pop() {
+            Some(inner) => {
+                let outer = Items::from_vec(outer);
+                let sets = Sets { inner, outer };
+                Closing::Under(Guarded { world, sets })
+            }
+            None => {
+                let mut world = world;
+                world.leave_user();
+                Closing::Last(world)
+            }
+        }
+    }
+
+    /// The run stopped: no upcall is open any more.
+    pub fn leave(self) -> World<'a>
+        ensures { result ≡ driver self.entry.program (with_views [] self.entry.world) }
+    {
+        let Guarded { world, sets } = self;
+        drop(sets);
         let mut world = world;
         world.leave_user();
         world
+    }
+
+    /// The only upcall is over.
+    pub fn alone(self) -> World<'a>
+        requires { length self.world.views ≡ 1 }
+        ensures is { result ≡ driver self.entry.program (closed self.entry.world) }
+        ensures alone { result.world.views ≡ [] }
+    {
+        match self.close() {
+            Closing::Last(world) => world,
+            Closing::Under(_) => unreachable!(),
+        }
+    }
+
+    /// The innermost upcall is over, and the one around it is the innermost.
+    pub fn under(self) -> Guarded<'a>
+        requires { (n : ℕ) × (length self.world.views ≡ suc (suc n)) }
+        ensures { result ≡ driver self.entry.program (closed self.entry.world) }
+    {
+        match self.close() {
+            Closing::Last(_) => unreachable!(),
+            Closing::Under(around) => around,
+        }
     }
 
     /// One tick, if one is left.
@@ -154,7 +263,7 @@ impl<'a> Memory for Guarded<'a> {
     ghost accesses = { guarded_accesses };
 
     fn load(&self, pointer: Value) -> Result<Value, StopKind> {
-        if is_kept_out(&self.world, &self.set, pointer) {
+        if is_kept_out(&self.world, &self.sets.inner, pointer) {
             return Err(StopKind::Annotation);
         }
         self.world.load(pointer)
@@ -165,21 +274,21 @@ impl<'a> Memory for Guarded<'a> {
     }
 
     fn store(&mut self, pointer: Value, value: Value) -> Result<(), StopKind> {
-        if is_kept_out(&self.world, &self.set, pointer) {
+        if is_kept_out(&self.world, &self.sets.inner, pointer) {
             return Err(StopKind::Annotation);
         }
         self.world.store(pointer, value)
     }
 
     fn first(&self, serial: u64) -> Option<Integer> {
-        if !self.set.has(serial, 0) {
+        if !self.sets.inner.has(serial, 0) {
             return None;
         }
         self.world.first(serial)
     }
 
     fn set_first(&mut self, serial: u64, integer: Integer) -> bool {
-        if !self.set.has(serial, 0) {
+        if !self.sets.inner.has(serial, 0) {
             return false;
         }
         self.world.set_first(serial, integer)
@@ -191,17 +300,17 @@ impl<'a> Memory for Guarded<'a> {
         pointer: Value,
         count: u64,
     ) -> Result<Result<Items<u8>, StopKind>, AllocError> {
-        if are_kept_out(&self.world, &self.set, pointer, count) {
+        if are_kept_out(&self.world, &self.sets.inner, pointer, count) {
             return Ok(Err(StopKind::Annotation));
         }
         self.world.read(alloc, pointer, count)
     }
 
     fn birth(&mut self, alloc: Global, shapes: &[Shape64]) -> Result<Items<Value>, AllocError> {
-        match birth_beside(alloc, &mut self.world, &self.set, shapes) {
+        match birth_beside(alloc, &mut self.world, &self.sets, shapes) {
             Ok(pointers) => Ok(pointers),
             Err(error) => {
-                forget(alloc, &mut self.world, &mut self.set);
+                forget(alloc, &mut self.world, &mut self.sets);
                 Err(error)
             }
         }

@@ -1,9 +1,10 @@
 //! The run of a script for a driver on one memory, while its user half is held to the cells that its annotations let it touch:
 //! what it shows is what `mdr_watched` says of it.
 //!
-//! While a function of the user half is active the state of the run is a `Guarded`: the world of a plain run, beside the set
-//! of the cells that user code may touch, in which cells of dead blocks may be left. One upcall is open at most, since kernel
-//! code may call no function of the user half: where it would the run stops.
+//! While functions of the user half are active the state of the run is a `Guarded`: the world of a plain run, beside the sets
+//! of the upcalls that are open. User code may touch the cells of the innermost, in which cells of dead blocks may be left.
+//! Code of the kernel half runs on the world alone, up to its end or to where it calls back (`enter_below`, `go_on_below`).
+//! In the run of this crate it may not: where it would the run stops, and one upcall is open at most.
 #![tactic(auto)]
 
 mod asks;
@@ -13,15 +14,17 @@ mod guarded;
 mod kept_out;
 mod next;
 mod roots;
+mod sets;
 mod turn;
 mod upcall;
 mod watch;
 mod whole;
 
 pub use asks::ask;
-pub use downcalls::downcall;
+pub use downcalls::{come_back, enter_below, go_on_below, sent};
 pub use guarded::{Guarded, Parts};
 pub use roots::entry_roots;
+pub use sets::Sets;
 pub use upcall::first_set;
 pub use watch::{Upcall, Watch, is_user, kernel_code, touched};
 pub use whole::run_watched;

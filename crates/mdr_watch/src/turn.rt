@@ -14,12 +14,13 @@ ghost use Rattle.mdr_watch.specs.Watching.{IsFit};
 use crate::asks::ask;
 use crate::downcalls::downcall;
 use crate::guarded::Guarded;
+use crate::next::Next;
 use crate::watch::Upcall;
 use mdr_core::{At, Limit, OutOfMemory, StopKind, Value, spent};
 use mdr_events::{Asked, Crossing, Event};
 use mdr_exec::{Machine, Side};
 use mdr_services::Served;
-use mdr_whole::{Gave, Next};
+use mdr_whole::Gave;
 use std::alloc::Global;
 
 /// Runs a machine with so many ticks, on the code of the user half.

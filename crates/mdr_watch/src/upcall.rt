@@ -1,6 +1,6 @@
 // A function of the user half is called.
 
-ghost use Rattle.std.specs.Prelude.{◌≡◌, [], true, IfOk};
+ghost use Rattle.std.specs.Prelude.{◌≡◌, [], length, true, IfOk};
 ghost use Rattle.mdr_core.specs.Sound.{IsSound};
 ghost use Rattle.mdr_events.specs.Ready.{IsReady};
 ghost use Rattle.mdr_events.specs.Values.{wires_of};
@@ -11,7 +11,8 @@ ghost use Rattle.mdr_watched.specs.Driver.{is_user};
 ghost use Rattle.mdr_watched.specs.Order.{AreLive};
 ghost use Rattle.mdr_watched.specs.Watched.{closing, held, may_not, upcall as up};
 ghost use Rattle.mdr_watch.specs.Going.{IsStarted, user_does};
-ghost use Rattle.mdr_watch.specs.Leaving.{GaveFor};
+ghost use Rattle.mdr_whole.specs.Ending.{gave_as};
+ghost use Rattle.mdr_watch.specs.Leaving.{GaveFor, IsOnly};
 ghost use Rattle.mdr_watch.specs.Watching.{HaveBodies, IsFit, begins_with, driver_in, entered_in};
 
 use crate::guarded::Guarded;
@@ -39,6 +40,27 @@ fn started(alloc: Global, upcall: Upcall, args: &[Value]) -> Result<Machine, Out
     Ok(machine)
 }
 
+/// What is left of an upcall that is the only one, where its function ended or stopped.
+fn closed<'a>(gave: Gave, guarded: Guarded<'a>) -> Closed<'a>
+    requires only { IsOnly gave guarded.world }
+    ensures kept { result.world.program ≡ guarded.entry.program }
+    ensures alone { result.world.world.views ≡ [] }
+    ensures gave { GaveFor result.gave result.world.world (closing (gave_as gave guarded.entry.world)) }
+{
+    match gave {
+        Gave::Value(value) => {
+            let world = guarded.alone();
+            let gave = Gave::Value(value);
+            Closed { gave, world }
+        }
+        Gave::Stopped(kind, at) => {
+            let world = guarded.leave();
+            let gave = Gave::Stopped(kind, at);
+            Closed { gave, world }
+        }
+    }
+}
+
 /// What a machine holds runs to its end, and the set is gone.
 fn run_out<'a>(
     alloc: Global,
@@ -49,6 +71,7 @@ fn run_out<'a>(
     requires sound { IsSound upcall.watch.program.now }
     requires fit { IsFit upcall.watch }
     requires same { guarded.program ≡ upcall.watch.program.now }
+    requires only { length guarded.world.views ≡ 1 }
     requires ready { IsReady (held_of upcall.watch.program.now machine) }
     ensures kept { IfOk result (λ r. r.world.program ≡ upcall.entry.watch.program.now) }
     ensures alone { IfOk result (λ r. r.world.world.views ≡ []) }
@@ -59,10 +82,7 @@ fn run_out<'a>(
     let ran = run(&mut machine, alloc, upcall, &mut guarded);
     drop(machine);
     match ran {
-        Ok(gave) => {
-            let world = guarded.close();
-            Ok(Closed { gave, world })
-        }
+        Ok(gave) => Ok(closed(gave, guarded)),
         Err(error) => {
             drop(guarded);
             Err(error)
@@ -90,7 +110,7 @@ fn enter<'a>(
     ensures alone { IfOk result (λ r. r.world.world.views ≡ []) }
     ensures gave { IfOk result (λ r. GaveFor r.gave r.world.world (entered_in upcall.entry (wires_of args.now) set world.entry.world)) }
 {
-    let guarded = Guarded::new(world, set);
+    let guarded = Guarded::new(alloc, world, set);
     match started(alloc, upcall, args) {
         Ok(machine) => run_out(alloc, upcall, machine, guarded),
         Err(error) => {

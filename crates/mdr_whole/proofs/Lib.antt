@@ -1,3 +1,4 @@
+mod HeldFuel
 mod Calm
 mod Turns
 mod Scripts

@@ -8,11 +8,10 @@ ghost use Rattle.mdr_events.specs.Ready.{IsReady};
 ghost use Rattle.mdr_events.specs.Values.{wires_of};
 ghost use Rattle.mdr_exec.specs.Holding.{Takes, held_of};
 ghost use Rattle.mdr_world.specs.Driven.{NoneIsDue};
-ghost use Rattle.mdr_whole.specs.Ending.{gave_as};
-ghost use Rattle.mdr_whole.specs.Going.{Began, Follows, GoesOnAnyhow, GoesOnIn, GoesOnWith, Passed, RanIn, RanThrough, does_in, half_of, side_of};
+ghost use Rattle.mdr_whole.specs.Going.{Began, Follows, GoesOnAnyhow, GoesOnIn, GoesOnWith, Passed, RanIn, RanThrough, ReachedIn, WaitsAt, side_of};
 
 use crate::before::Before;
-use crate::code::{Code, is_half};
+use crate::code::Code;
 use crate::ending::{Gave, Worked};
 use crate::next::Next;
 use mdr_core::{At, Items, Limit, OutOfMemory, StopKind, Value, spent};
@@ -51,7 +50,7 @@ fn begin(
     requires sound { IsSound code.program.now }
     requires same { world.old.program ≡ code.program.now }
     requires ready { IsReady (held_of code.program.now machine.old) }
-    ensures { IfOk result (λ e. Began code.entry.program.now (half_of code.entry) (side_of code.entry) machine.old world.old machine.new e world.new) }
+    ensures { IfOk result (λ e. Began code.entry.program.now (side_of code.entry) machine.old world.old machine.new e world.new) }
 {
     let event = go(machine, alloc, code, world, 0)?;
     Ok(event)
@@ -67,7 +66,7 @@ fn go_on(
     requires sound { IsSound code.program.now }
     requires same { world.old.program ≡ code.program.now }
     requires ready { IsReady (held_of code.program.now machine.old) }
-    ensures { IfOk result (λ e. Passed code.entry.program.now (half_of code.entry) (side_of code.entry) machine.old world.old machine.new e world.new) }
+    ensures { IfOk result (λ e. Passed code.entry.program.now (side_of code.entry) machine.old world.old machine.new e world.new) }
 {
     let event = go(machine, alloc, code, world, 1)?;
     Ok(event)
@@ -84,7 +83,7 @@ fn pass(
     requires sound { IsSound code.program.now }
     requires same { world.old.program ≡ code.program.now }
     requires ready { IsReady (held_of code.program.now machine.old) }
-    ensures { IfOk result (λ n. Follows code.entry.program.now (half_of code.entry) (side_of code.entry) at machine.old world.old machine.new n world.new) }
+    ensures { IfOk result (λ n. Follows code.entry.program.now (side_of code.entry) at machine.old world.old machine.new n world.new) }
 {
     if world.tick() {
         let event = go_on(machine, alloc, code, world)?;
@@ -103,7 +102,7 @@ fn run_through(
     requires sound { IsSound code.program.now }
     requires same { world.old.program ≡ code.program.now }
     requires ready { IsReady (held_of code.program.now machine.old) }
-    ensures { IfOk result (λ e. RanThrough code.entry.program.now (half_of code.entry) (side_of code.entry) machine.old world.old machine.new e world.new) }
+    ensures { IfOk result (λ e. RanThrough code.entry.program.now (side_of code.entry) machine.old world.old machine.new e world.new) }
 {
     let ticks = world.rest();
     let event = go(machine, alloc, code, world, ticks)?;
@@ -157,7 +156,7 @@ fn resume(
     requires sound { IsSound code.program.now }
     requires same { world.old.program ≡ code.program.now }
     requires takes { Takes code.program.now machine.old results.now }
-    ensures { IfOk result (λ e. GoesOnWith code.entry.program.now (half_of code.entry) (side_of code.entry) (wires_of results.now) machine.old world.old machine.new e world.new) }
+    ensures { IfOk result (λ e. GoesOnWith code.entry.program.now (side_of code.entry) (wires_of results.now) machine.old world.old machine.new e world.new) }
 {
     machine.resume(results);
     let event = begin(machine, alloc, code, world)?;
@@ -187,51 +186,8 @@ fn answer(
     }
 }
 
-/// A function is called that isn't among those that run. Where all of a driver's code runs it gives nothing; code of one
-/// half may not call the other.
-fn cross(
-    machine: &mut Machine,
-    alloc: Global,
-    code: Code,
-    world: &mut World,
-    crossing: &Crossing,
-) -> Result<Next, OutOfMemory>
-    requires sound { IsSound code.program.now }
-    requires same { world.old.program ≡ code.program.now }
-    requires waiting { LeavesAt (event.Cross crossing.now) (held_of code.program.now machine.old) }
-    ensures { IfOk result (λ n. GoesOnAnyhow code.entry machine.old (event.Cross crossing.now) world.old machine.new n world.new) }
-{
-    if is_half(code.side) {
-        return Ok(Next::Gave(Gave::Stopped(StopKind::Atomic, Some(crossing.at))));
-    }
-    let event = resume(machine, alloc, code, world, &[Value::NoValue])?;
-    Ok(Next::Came(event))
-}
-
-/// What follows an event.
+/// What follows an event. Where a function of the other half is called the machine waits.
 fn follow<B: Before>(
-    machine: &mut Machine,
-    alloc: Global,
-    code: Code,
-    world: &mut World,
-    event: &Event,
-) -> Result<Next, OutOfMemory>
-    requires sound { IsSound code.program.now }
-    requires same { world.old.program ≡ code.program.now }
-    requires left { LeavesAt event.now (held_of code.program.now machine.old) }
-    ensures { IfOk result (λ n. GoesOnIn B.tries code.entry machine.old event.now world.old machine.new n world.new) }
-{
-    match event {
-        Event::Done(value) => Ok(Next::Gave(Gave::Value(world.now(*value)))),
-        Event::Stop(kind, at) => Ok(Next::Gave(Gave::Stopped(*kind, Some(*at)))),
-        Event::Service(asked) => answer(machine, alloc, code, world, asked),
-        Event::TicksOut(at) => tick::<B>(machine, alloc, code, world, *at),
-        Event::Cross(crossing) => cross(machine, alloc, code, world, crossing),
-    }
-}
-
-/// What follows an event, which is let go of then.
-fn follow_up<B: Before>(
     machine: &mut Machine,
     alloc: Global,
     code: Code,
@@ -243,32 +199,51 @@ fn follow_up<B: Before>(
     requires left { LeavesAt event (held_of code.program.now machine.old) }
     ensures { IfOk result (λ n. GoesOnIn B.tries code.entry machine.old event world.old machine.new n world.new) }
 {
-    let next = follow::<B>(machine, alloc, code, world, &event);
-    drop(event);
-    next
+    match event {
+        Event::Done(value) => Ok(Next::Gave(Gave::Value(world.now(value)))),
+        Event::Stop(kind, at) => Ok(Next::Gave(Gave::Stopped(kind, Some(at)))),
+        Event::Service(asked) => {
+            let next = answer(machine, alloc, code, world, &asked);
+            drop(asked);
+            next
+        }
+        Event::TicksOut(at) => tick::<B>(machine, alloc, code, world, at),
+        Event::Cross(crossing) => Ok(Next::Calls(crossing)),
+    }
 }
 
-/// Runs a machine until the function that was started in it ends.
+/// How far a machine runs.
+#[derive(Drop)]
+pub(crate) enum Reached {
+    Gave(Gave),
+    /// Up to a call of a function of the other half, for whose value it waits.
+    Calls(Crossing),
+}
+
+/// Runs a machine until the function that was started in it ends, or calls a function of the other half.
 pub(crate) fn run<B: Before>(
     machine: &mut Machine,
     alloc: Global,
     code: Code,
     world: &mut World,
-) -> Result<Gave, OutOfMemory>
+) -> Result<Reached, OutOfMemory>
     requires sound { IsSound code.program.now }
     requires same { world.old.program ≡ code.program.now }
     requires ready { IsReady (held_of code.program.now machine.old) }
     ensures kept { OnOk result (world.new.program ≡ code.entry.program.now) }
-    ensures gave { IfOk result (λ g. gave_as g world.new.world ≡ does_in B.tries code.entry machine.old world.old.world) }
+    ensures spent { OnOk result (world.new.world.clock.rest ≤ world.old.world.clock.rest) }
+    ensures reached { IfOk result (λ r. ReachedIn B.tries code.entry machine.old world.old.world r machine.new world.new.world) }
+    ensures waits { IfOk result (λ r. WaitsAt code.entry.program.now r machine.new) }
 {
     let mut event = begin(machine, alloc, code, world)?;
     let mut turns: u64 = 0;
     while turns < u64::MAX {
         turns += 1;
-        let next = follow_up::<B>(machine, alloc, code, world, event)?;
+        let next = follow::<B>(machine, alloc, code, world, event)?;
         match next {
             Next::Came(other) => event = other,
-            Next::Gave(gave) => return Ok(gave),
+            Next::Gave(gave) => return Ok(Reached::Gave(gave)),
+            Next::Calls(crossing) => return Ok(Reached::Calls(crossing)),
         }
     }
     drop(event);

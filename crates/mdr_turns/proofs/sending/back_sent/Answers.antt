@@ -1,11 +1,11 @@
 use Rattle.std.proofs.Common.{sym}
 use Rattle.std.specs.Prelude.{drop}
 use Rattle.mdr_watch.specs.Watching.{driver_in}
-use Rattle.mdr_turns.specs.States.{upcall_of}
+use Rattle.mdr_turns.specs.States.{rest_of, upcall_of}
 use Rattle.mdr_turns.proofs.Messages.{back_is}
 use Rattle.mdr_turns.proofs.sending.back_sent.Goals as goal
 
 pub returns-in-Ok-clause-comes : goal.returns-in-Ok-clause-comes
 returns-in-Ok-clause-comes c = λ script before.
-    sym (back_is (driver_in c.args.watch) c.args.waiting.seen c.requires.stands.seen c.args.waiting.ledger c.back_message.new.ledger (upcall_of c.args.waiting.open) (drop c.args.waiting.open.done script) before c.in-Ok.message
+    sym (back_is (driver_in c.args.watch) c.args.waiting.seen c.requires.stands.seen c.args.waiting.ledger c.back_message.new.ledger (upcall_of c.args.waiting.open) (rest_of (driver_in c.args.watch) c.args.waiting.behind.frames) (drop c.args.waiting.behind.done script) before c.in-Ok.message
     c.args.value c.in-Ok.ensures.is c.in-Ok.ensures.kept)

@@ -11,6 +11,6 @@ pub returns-clause-comes : goal.returns-clause-comes
 returns-clause-comes c =
     IfOk-weaker c.back_sent.result _ _
     (λ p h. λ script before.
-    back_from (driver_in c.args.watch) before script p c.in_ok-waiting.waiting.seen.guarded c.args.active.guarded c.in_ok-waiting.waiting.ledger c.args.active.ledger c.in_ok-waiting.waiting.open c.args.active.open
-    c.in_ok-waiting.ensures.same c.in_ok-waiting.ensures.ledger c.in_ok-waiting.ensures.open c.wire_of.result (wire_of c.args.value) c.wire_of.ensures (h script before))
+    back_from (driver_in c.args.watch) before script p c.in_ok-waiting.waiting.seen.guarded c.args.active.guarded c.in_ok-waiting.waiting.ledger c.args.active.ledger c.in_ok-waiting.waiting.behind c.args.active.behind
+    c.in_ok-waiting.ensures.same c.in_ok-waiting.ensures.ledger c.in_ok-waiting.ensures.behind c.wire_of.result (wire_of c.args.value) c.in_ok-waiting.waiting.open c.args.active.open c.wire_of.ensures c.in_ok-waiting.ensures.open (h script before))
     c.back_sent.ensures.comes

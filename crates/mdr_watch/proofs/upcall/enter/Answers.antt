@@ -1,6 +1,6 @@
 use Rattle.std.proofs.lemmas.Result.{IfOk-weaker}
 use Rattle.mdr_events.specs.Values.{wires_of}
-use Rattle.mdr_watch.proofs.Runs.{ran_entered}
+use Rattle.mdr_watch.proofs.Runs.{one_opens, ran_entered}
 use Rattle.mdr_watch.proofs.upcall.enter.Goals as goal
 
 pub returns-in-Ok-clause-gave : goal.returns-in-Ok-clause-gave
@@ -11,3 +11,6 @@ returns-in-Ok-clause-gave c =
 
 pub run_out-requires-clause-ready : goal.run_out-requires-clause-ready
 run_out-requires-clause-ready c = c.in-Ok.ensures.ready
+
+pub run_out-requires-clause-only : goal.run_out-requires-clause-only
+run_out-requires-clause-only c = one_opens c.args.world.program c.args.set c.args.world.world c.new-guarded.result c.requires.alone c.new-guarded.ensures

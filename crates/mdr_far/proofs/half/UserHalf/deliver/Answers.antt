@@ -1,4 +1,4 @@
-use Rattle.std.proofs.Common.{◌≡◌, ℕ, List, ◌++◌, Some, refl, subst, sym, ap, ◌∙◌}
+use Rattle.std.proofs.Common.{◌≡◌, ℕ, List, ◌++◌, Some, refl, subst, sym, ap, ◌∙◌, is_some}
 use Rattle.std.specs.Prelude.{option_map}
 use Rattle.mdr_exchanges.specs.Runs.{sent_of}
 use Rattle.mdr_model.specs.Bytes.{readings}
@@ -13,7 +13,7 @@ use Rattle.mdr_user_memory.specs.Paired.{Paired}
 use Rattle.mdr_watched.specs.Driver.{driver_of}
 use Rattle.mdr_far.specs.Halves.{HalfState, driver_in}
 use Rattle.mdr_far.specs.Memories.{AreIts, GoesWith}
-use Rattle.mdr_far.proofs.HalfSteps.{at_some, then_some, at_ok, on_ok, follows_next, honest_more, memory_paired, replies_on}
+use Rattle.mdr_far.proofs.HalfSteps.{at_some, then_some, kept_wants, at_ok, on_ok, follows_next, honest_more, memory_paired, replies_on}
 use Rattle.mdr_far.proofs.half.UserHalf.deliver.Goals as goal
 
 pub invariant_of-self-in-Ok : goal.invariant_of-self-in-Ok
@@ -24,6 +24,7 @@ invariant_of-self-in-Ok c =
     record {
       sound = c.self.invariant.sound;
       fit = c.self.invariant.fit;
+      wanting = kept_wants c.put.new.place c.reply_to-reply.new.state c.self.inside.wanted c.put.ensures;
       honest =
           honest_more d es c.recorded.new.exchanges c.args.bytes.now c.in-Ok.reply.items c.in-Ok.ensures.ok.1
           (at_ok c.reply_to-reply.result c.in-Ok.reply c.in-Ok.ensures.ok.0 (λ r. (before : List (List ℕ)) → Follows d (readings before) c.in-Some.state → IsHonestReply d before c.args.bytes.now r.items) c.reply_to-reply.ensures.reply (sent_of es) follows)
@@ -83,3 +84,6 @@ returns-in-Ok-clause-lived c =
     follows_next d es es' s' c.args.bytes.now c.in-Ok.reply.items c.in-Ok.ensures.ok.1
     (on_ok c.reply_to-reply.result c.in-Ok.reply c.in-Ok.ensures.ok.0 _ c.reply_to-reply.ensures.follows (sent_of es) follows) in
     subst (λ o. AreIts (lived_after d (readings (sent_of es'))) (option_map (λ (s : State). s.memory) o)) (sym c.put.ensures) follows'.lived
+
+pub wanting-requires : goal.wanting-requires
+wanting-requires c = c.self.invariant.wanting (ap is_some (sym c.take.ensures.value ∙ c.in_default.is))

@@ -1,7 +1,9 @@
-use Rattle.std.proofs.Common.{sym, ap}
+use Rattle.std.proofs.Common.{sym, ap, subst}
 use Rattle.mdr_far.specs.declared.local_far.LocalFar.TheInside.{Inside}
+use Rattle.mdr_outside.specs.Far.{IsLoaded}
+use Rattle.mdr_far.specs.Fars.{Held}
 use Rattle.mdr_far.specs.Halves.{HalfState}
-use Rattle.mdr_far.proofs.FarLaws.{kept_alike, kept_on}
+use Rattle.mdr_far.proofs.FarLaws.{half_there, kept_alike, kept_on}
 use Rattle.mdr_far.proofs.local_far.LocalFarFar.deliver.Goals as goal
 use Rattle.mdr_far.proofs.local_far.LocalFarFar.deliver.Goals.{in-Some+in-Ok, in-Some+in-Err, in-None}
 
@@ -16,3 +18,6 @@ invariant_of-self c = elim c.match-self.branch [
   | in-None w ↦
       kept_alike c.self.inside c.match-self.self-inside (sym (ap (λ (s : Inside). s.loaded) w.self-inside-is)) (sym (ap (λ (s : Inside). s.half) w.self-inside-is)) c.self.invariant
 ]
+
+pub unreachable-requires : goal.unreachable-requires
+unreachable-requires c = half_there c.self.inside c.self.invariant (subst (λ (h : Held). IsLoaded h.loaded) (sym c.self.view_is) c.requires) c.in-None.is

@@ -13,3 +13,6 @@ returns-clause-kept c = ap (λ (d : Driven). d.world.kept) c.self.view_is
 
 pub returns-clause-program : goal.returns-clause-program
 returns-clause-program c = ap (λ (d : Driven). d.program) c.self.view_is
+
+pub returns-clause-lives : goal.returns-clause-lives
+returns-clause-lives c = ap (λ (d : Driven). d.world.lives) c.self.view_is
