@@ -1,17 +1,23 @@
 -- for proofs
 -- Small drivers in two halves, worked out: their messages, and what their runs show.
-use Rattle.std.specs.Prelude.{◌≡◌, ℕ, suc, true, false, List, [], ◌∷◌, Option, Some, None, codes}
+use Rattle.std.specs.Prelude.{◌≡◌, ℕ, suc, true, false, List, [], ◌∷◌, ◌++◌, Option, Some, None, map, codes}
+use Rattle.mdr_core.specs.declared.code.BinOp.TheVariants.{Mul}
+use Rattle.mdr_core.specs.declared.kind.Kind.TheVariants.{U32}
 use Rattle.mdr_core.specs.declared.plan.Key.TheVariants as key
+use Rattle.mdr_core.specs.declared.program.Func.{Func}
 use Rattle.mdr_core.specs.declared.program.StructDef.{StructDef}
+use Rattle.mdr_core.specs.declared.stop.StopKind.TheVariants as stop
 use Rattle.mdr_core.specs.declared.types.Ann.TheVariants.{Single, Opaque}
+use Rattle.mdr_core.specs.declared.types.Ty.{Ty}
 use Rattle.mdr_core.specs.declared.types.Ty.TheVariants as ty
+use Rattle.mdr_core.specs.declared.value.LockState.TheVariants.{Free}
 use Rattle.mdr_core.specs.declared.value.Value.TheVariants as value
-use Rattle.mdr_core.specs.Code.{Term, Lvalue, Code}
+use Rattle.mdr_core.specs.Code.{Term, Lvalue, Called, Code}
 use Rattle.mdr_meaning.specs.declared.shape.Shape64.{Shape64}
 use Rattle.mdr_meaning.specs.declared.wire.Wire.{Wire}
 use Rattle.mdr_meaning.specs.declared.wire.Wire.TheVariants as wire
 use Rattle.mdr_meaning.specs.Sides.{Body}
-use Rattle.mdr_meaning.specs.Worked.{add, at_stmt, body, calls as calls_func, field, glob, number, object as object_slot, param, u32, var}
+use Rattle.mdr_meaning.specs.Worked.{add, at_stmt, body, calls as calls_func, field, form, glob, number, object as object_slot, param, u32, var}
 use Rattle.mdr_model.specs.declared.memory.MemoryBlock.{MemoryBlock}
 use Rattle.mdr_model.specs.declared.message.BirthKind.{BirthKind}
 use Rattle.mdr_model.specs.declared.message.BirthKind.TheVariants.{Static, Heap, Auto}
@@ -26,14 +32,18 @@ use Rattle.mdr_model.specs.declared.outcome.End.TheVariants as ends
 use Rattle.mdr_model.specs.declared.outcome.Seen.TheVariants as seen
 use Rattle.mdr_model.specs.Law.{read}
 use Rattle.mdr_model.specs.Memory.{Memory}
+use Rattle.mdr_model.specs.Text.{text}
 use Rattle.mdr_model.specs.User.{allowance}
+use Rattle.mdr_model.specs.Worked.{words}
 use Rattle.mdr_plain.specs.declared.outcome.Happened.TheVariants as happened
 use Rattle.mdr_plain.specs.declared.outcome.Outcome.{Outcome}
 use Rattle.mdr_plain.specs.Outcome.{outcome_of}
 use Rattle.mdr_plain.specs.Scripts.{finish}
 use Rattle.mdr_plain.specs.Worked.{allocates, calls, just, named, of_type, serves, with_rules, zero_u32}
 use Rattle.mdr_plain.specs.WorkedInterrupts.{after_two, counts_hit, hitting, reads, requests, sets, writes}
+use Rattle.mdr_plain.specs.WorkedRuns.{of_dev}
 use Rattle.mdr_bound.specs.declared.bound.Bound.{Bound}
+use Rattle.mdr_slice.specs.Written.{Written, assign, calling, plain, stmts}
 use Rattle.mdr_split.specs.AnyAnswers.{kernel_in}
 use Rattle.mdr_split.specs.Kernel.{split_run}
 use Rattle.mdr_split.specs.Law.{IsHonest}
@@ -289,64 +299,155 @@ timed_copy = block 0 Static 2 (u32_value 0 ∷ []) ∷ block 1 Static 2 (u32_val
 abbrev pub KeepsTime : Type 0
 KeepsTime = Passes timed start_and_go timed_sent timed_answers timed_outcome timed_copy
 
--- ---- callbacks: u32 n; u32 log; void fire(u32 x){kcall(done,x); n=n+1;}
--- void done(u32 x){log=log+x; writel(x,3);} void go(void){fire(1); fire(2); log=log+n;}   where `done` and `go` are of the user half
+-- ---- callbacks: struct job {u32 n;}; struct job j; u32 log; void (*cb)(u32);
+-- void done(u32 x){log=log*10+x; writel(x,3);} void fire(u32 x){kcall(cb,x); j.n=j.n+1;}
+-- void go(void){cb=done; fire(1); fire(2); log=log+j.n;}   where `done` and `go` are of the user half
 
-abbrev pub fires : Body
-fires = body (param u32 ∷ []) ty.Void (serves 1 15 (Term.Lit (value.Fn 1) ∷ var 0 ∷ []) ∷ sets 2 0 (add (glob 0) (number 1)) ∷ [])
+abbrev pub job : StructDef
+job = record { name = codes "job"; fields = field u32 ∷ [] }
+
+-- the type of a function that takes a number and gives nothing
+abbrev pub takes_word : Ty
+takes_word = ty.Fun (ty.Void ∷ u32 ∷ [])
+
+abbrev pub taking_word : (name : List ℕ) → Func
+taking_word name = record (named name) { params = param_of u32 Single ∷ [] }
 
 abbrev pub logs : Body
-logs = body (param u32 ∷ []) ty.Void (sets 1 1 (add (glob 1) (var 0)) ∷ serves 2 5 (var 0 ∷ number 3 ∷ []) ∷ [])
+logs = body (param u32 ∷ []) ty.Void (sets 1 1 (add (Term.Bin Mul U32 (glob 1) (number 10)) (var 0)) ∷ serves 2 5 (var 0 ∷ number 3 ∷ []) ∷ [])
+
+abbrev pub fires : Body
+fires = body (param u32 ∷ []) ty.Void (serves 1 15 (glob 2 ∷ var 0 ∷ []) ∷ Code.Assign 2 (of_dev 0) (add (Term.Load (of_dev 0)) (number 1)) ∷ [])
+
+-- its text is in the program too, since the kernel half asks of a function in a reply whether its address is taken somewhere
+abbrev pub go_lines : List Written
+go_lines =
+    assign 1 (Lvalue.Global 2) (Term.Lit (value.Fn 0))
+    ∷ calling 2 (form (Called.Direct 1) (number 1 ∷ []))
+    ∷ calling 3 (form (Called.Direct 1) (number 2 ∷ []))
+    ∷ assign 4 (Lvalue.Global 1) (add (glob 1) (Term.Load (of_dev 0)))
+    ∷ []
 
 abbrev pub fires_twice : Body
-fires_twice = body [] ty.Void (calls_func 1 0 (number 1 ∷ []) ∷ calls_func 2 0 (number 2 ∷ []) ∷ sets 3 1 (add (glob 1) (glob 0)) ∷ [])
+fires_twice = record { slots = []; result = ty.Void; code = plain go_lines }
 
 abbrev pub twice : Driver
-twice = with_stubs (true ∷ false ∷ false ∷ [])
+twice = with_stubs (false ∷ true ∷ false ∷ [])
     (cut
-    (record hitting {
-      globals = of_type u32 (zero_u32 ∷ []) ∷ of_type u32 (zero_u32 ∷ []) ∷ [];
-      funcs = record (named (codes "fire")) { params = param_of u32 Single ∷ [] } ∷ record (named (codes "done")) { params = param_of u32 Single ∷ [] } ∷ named (codes "go") ∷ [];
-      bodies = fires ∷ logs ∷ fires_twice ∷ [];
+    (record {
+      struct = job;
+      pointer = takes_word;
+      globals = of_type (ty.Struct 0) (zero_u32 ∷ []) ∷ of_type u32 (zero_u32 ∷ []) ∷ of_type takes_word (value.Null ∷ []) ∷ [];
+      funcs = taking_word (codes "done") ∷ taking_word (codes "fire") ∷ record (named (codes "go")) { body = Some (stmts go_lines) } ∷ [];
+      bodies = logs ∷ fires ∷ fires_twice ∷ [];
     })
-    (false ∷ true ∷ true ∷ [])
-    ([] ∷ (key.Global 1 ∷ []) ∷ (key.Global 0 ∷ key.Global 1 ∷ []) ∷ []))
+    (true ∷ false ∷ true ∷ [])
+    ((key.Global 1 ∷ []) ∷ [] ∷ (key.Field 0 0 ∷ key.Global 1 ∷ key.Global 2 ∷ []) ∷ []))
 
 abbrev pub call_go : Bound
 call_go = just (calls 2 ∷ [])
 
--- what `done` may touch
+-- what `go` may touch, and what `done` may
+abbrev pub all_seen : List SetRun
+all_seen = cells 0 0 1 ∷ cells 1 0 1 ∷ cells 2 0 1 ∷ []
+
 abbrev pub log_seen : List SetRun
 log_seen = cells 1 0 1 ∷ []
 
--- two functions are active where `fire` calls back. Of `n`, which `done` may not touch, the Back tells
+-- two functions are active where `fire` calls back. Of `j`, which `done` may not touch, the Back tells
 abbrev pub twice_sent : List Message
 twice_sent =
-    message.Call 2 0 1000000 [] (told [] [] both_seen [])
-    ∷ message.Call 1 2 999998 (u32_value 1 ∷ []) (told [] [] log_seen [])
+    message.Call 2 0 1000000 [] (told [] [] all_seen [])
+    ∷ message.Call 0 2 999997 (u32_value 1 ∷ []) (told [] [] log_seen [])
     ∷ message.Answer [] [] []
-    ∷ message.Back 999995 wire.NoValue (told [] [] both_seen (holds 0 0 (u32_value 1) ∷ []))
-    ∷ message.Call 1 2 999993 (u32_value 2 ∷ []) (told [] [] log_seen [])
+    ∷ message.Back 999994 wire.NoValue (told [] [] all_seen (holds 0 0 (u32_value 1) ∷ []))
+    ∷ message.Call 0 2 999992 (u32_value 2 ∷ []) (told [] [] log_seen [])
     ∷ message.Answer [] [] []
-    ∷ message.Back 999990 wire.NoValue (told [] [] both_seen (holds 0 0 (u32_value 2) ∷ []))
+    ∷ message.Back 999989 wire.NoValue (told [] [] all_seen (holds 0 0 (u32_value 2) ∷ []))
     ∷ []
 
 abbrev pub twice_answers : List Message
 twice_answers =
-    message.Down 1 (at_stmt 2 1) 1 0 (u32_value 1 ∷ []) []
-    ∷ message.Ask 2 (at_stmt 1 2) 5 (u32_value 1 ∷ u32_value 3 ∷ []) [] [] (holds 1 0 (u32_value 1) ∷ [])
+    message.Down 2 (at_stmt 2 2) 1 1 (u32_value 1 ∷ []) (holds 2 0 (wire.Fn 0) ∷ [])
+    ∷ message.Ask 2 (at_stmt 0 2) 5 (u32_value 1 ∷ u32_value 3 ∷ []) [] [] (holds 1 0 (u32_value 1) ∷ [])
     ∷ message.Return 0 wire.NoValue []
-    ∷ message.Down 1 (at_stmt 2 2) 1 0 (u32_value 2 ∷ []) []
-    ∷ message.Ask 2 (at_stmt 1 2) 5 (u32_value 2 ∷ u32_value 3 ∷ []) [] [] (holds 1 0 (u32_value 3) ∷ [])
+    ∷ message.Down 1 (at_stmt 2 3) 1 1 (u32_value 2 ∷ []) []
+    ∷ message.Ask 2 (at_stmt 0 2) 5 (u32_value 2 ∷ u32_value 3 ∷ []) [] [] (holds 1 0 (u32_value 12) ∷ [])
     ∷ message.Return 0 wire.NoValue []
-    ∷ message.Return 1 wire.NoValue (holds 1 0 (u32_value 5) ∷ [])
+    ∷ message.Return 1 wire.NoValue (holds 1 0 (u32_value 14) ∷ [])
     ∷ []
 
 abbrev pub twice_outcome : Outcome
-twice_outcome = outcome (began (codes "go") [] ∷ happened.Wrote 3 1 ∷ happened.Wrote 3 2 ∷ returned ∷ []) ends.Ok 11 2 (word 2 ∷ word 5 ∷ [])
+twice_outcome =
+    outcome (began (codes "go") [] ∷ happened.Wrote 3 1 ∷ happened.Wrote 3 2 ∷ returned ∷ []) ends.Ok 12 3
+    (object 9 1 (int 2 ∷ []) ∷ word 14 ∷ object 10 1 (seen.Fn 0 ∷ []) ∷ [])
 
 abbrev pub twice_copy : Memory
-twice_copy = block 0 Static 2 (u32_value 2 ∷ []) ∷ block 1 Static 2 (u32_value 5 ∷ []) ∷ []
+twice_copy = block 0 Static 9 (u32_value 2 ∷ []) ∷ block 1 Static 2 (u32_value 14 ∷ []) ∷ block 2 Static 10 (wire.Fn 0 ∷ []) ∷ []
 
 abbrev pub CallsBackTwice : Type 0
 CallsBackTwice = Passes twice call_go twice_sent twice_answers twice_outcome twice_copy
+
+-- numbers in four bytes each. What the budget leaves has three that aren't 0
+abbrev pub left : (low : List ℕ) → List ℕ
+left low = 0 ∷ 0 ∷ 0 ∷ 0 ∷ 0 ∷ 15 ∷ low
+
+-- their bytes: 88, 64, 16, 104, 64, 16 and 104 of them, and of the answers 68, 80, 20, 44, 80, 20 and 44
+pub record CallbackSpells : Type 0 where
+  pub sent :
+      map text twice_sent
+      ≡ (words (1 ∷ 2 ∷ 0 ∷ []) ++ left (66 ∷ 64 ∷ []) ++ words (0 ∷ 0 ∷ 0 ∷ 3 ∷ 0 ∷ 0 ∷ 0 ∷ 1 ∷ 0 ∷ 1 ∷ 0 ∷ 1 ∷ 0 ∷ 2 ∷ 0 ∷ 1 ∷ 0 ∷ []))
+      ∷ (words (1 ∷ 0 ∷ 2 ∷ []) ++ left (66 ∷ 61 ∷ []) ++ words (1 ∷ 2 ∷ 1 ∷ 0 ∷ 0 ∷ 1 ∷ 0 ∷ 1 ∷ 0 ∷ 1 ∷ 0 ∷ []))
+      ∷ words (6 ∷ 0 ∷ 0 ∷ 0 ∷ [])
+      ∷ (words (4 ∷ []) ++ left (66 ∷ 58 ∷ []) ++ words (12 ∷ 0 ∷ 0 ∷ 3 ∷ 0 ∷ 0 ∷ 0 ∷ 1 ∷ 0 ∷ 1 ∷ 0 ∷ 1 ∷ 0 ∷ 2 ∷ 0 ∷ 1 ∷ 1 ∷ 0 ∷ 0 ∷ 0 ∷ 1 ∷ 2 ∷ 1 ∷ []))
+      ∷ (words (1 ∷ 0 ∷ 2 ∷ []) ++ left (66 ∷ 56 ∷ []) ++ words (1 ∷ 2 ∷ 2 ∷ 0 ∷ 0 ∷ 1 ∷ 0 ∷ 1 ∷ 0 ∷ 1 ∷ 0 ∷ []))
+      ∷ words (6 ∷ 0 ∷ 0 ∷ 0 ∷ [])
+      ∷ (words (4 ∷ []) ++ left (66 ∷ 53 ∷ []) ++ words (12 ∷ 0 ∷ 0 ∷ 3 ∷ 0 ∷ 0 ∷ 0 ∷ 1 ∷ 0 ∷ 1 ∷ 0 ∷ 1 ∷ 0 ∷ 2 ∷ 0 ∷ 1 ∷ 1 ∷ 0 ∷ 0 ∷ 0 ∷ 1 ∷ 2 ∷ 2 ∷ []))
+      ∷ []
+  pub answers :
+      map text twice_answers
+      ≡ words (3 ∷ 0 ∷ 2 ∷ 2 ∷ 2 ∷ 1 ∷ 1 ∷ 1 ∷ 2 ∷ 1 ∷ 1 ∷ 0 ∷ 2 ∷ 0 ∷ 1 ∷ 11 ∷ 0 ∷ [])
+      ∷ words (5 ∷ 0 ∷ 2 ∷ 0 ∷ 2 ∷ 5 ∷ 2 ∷ 2 ∷ 1 ∷ 2 ∷ 3 ∷ 0 ∷ 0 ∷ 1 ∷ 0 ∷ 1 ∷ 0 ∷ 1 ∷ 2 ∷ 1 ∷ [])
+      ∷ words (2 ∷ 0 ∷ 0 ∷ 12 ∷ 0 ∷ [])
+      ∷ words (3 ∷ 0 ∷ 1 ∷ 2 ∷ 3 ∷ 1 ∷ 1 ∷ 1 ∷ 2 ∷ 2 ∷ 0 ∷ [])
+      ∷ words (5 ∷ 0 ∷ 2 ∷ 0 ∷ 2 ∷ 5 ∷ 2 ∷ 2 ∷ 2 ∷ 2 ∷ 3 ∷ 0 ∷ 0 ∷ 1 ∷ 0 ∷ 1 ∷ 0 ∷ 1 ∷ 2 ∷ 12 ∷ [])
+      ∷ words (2 ∷ 0 ∷ 0 ∷ 12 ∷ 0 ∷ [])
+      ∷ words (2 ∷ 0 ∷ 1 ∷ 12 ∷ 1 ∷ 0 ∷ 1 ∷ 0 ∷ 1 ∷ 2 ∷ 14 ∷ [])
+      ∷ []
+
+-- ---- a lock that spins: combolock_t m; void cb(u32 x){} void bad(void){combolock(&m); kcall(cb,1);}   where `cb` is of the user half
+
+abbrev pub rests : Body
+rests = body (param u32 ∷ []) ty.Void []
+
+abbrev pub locks_and_calls : Body
+locks_and_calls = body [] ty.Void (serves 1 10 (Term.Addr (Lvalue.Global 0) ∷ []) ∷ serves 2 15 (Term.Lit (value.Fn 0) ∷ number 1 ∷ []) ∷ [])
+
+abbrev pub spinning : Driver
+spinning =
+    cut
+    (record {
+      struct = job;
+      pointer = takes_word;
+      globals = of_type ty.Lock (value.Lock Free ∷ []) ∷ [];
+      funcs = taking_word (codes "cb") ∷ named (codes "bad") ∷ [];
+      bodies = rests ∷ locks_and_calls ∷ [];
+    })
+    (true ∷ false ∷ [])
+    ([] ∷ [] ∷ [])
+
+abbrev pub call_bad : Bound
+call_bad = just (calls 1 ∷ [])
+
+abbrev pub spinning_end : End
+spinning_end = ends.Stop stop.Atomic (Some (at_stmt 1 2))
+
+abbrev pub spinning_outcome : Outcome
+spinning_outcome = outcome (began (codes "bad") [] ∷ []) spinning_end 2 1 (object 8 1 (seen.Held ∷ []) ∷ [])
+
+-- no message is sent, and both runs stop where the lock is held
+pub record MayNotCallBack : Type 0 where
+  pub sent : (split_run spinning call_bad 1000000 []).sent ≡ []
+  pub end : end_of (split_run spinning call_bad 1000000 []).pending ≡ Some spinning_end
+  pub outcome : outcome_of spinning.program (finish spinning_end (kernel_in (split_run spinning call_bad 1000000 []).pending).world) ≡ spinning_outcome
+  pub watched : outcome_of spinning.program (watched_of spinning call_bad 1000000) ≡ spinning_outcome
