@@ -1,5 +1,5 @@
 -- The driver whose kernel code calls back passes the messages that it is said to pass, and where a lock is held that spins none is sent.
-use Rattle.std.proofs.Common.{◌≡◌, ℕ, suc, List, [], ◌∷◌, ◌++◌, Some, refl, ◌∙◌, ap}
+use Rattle.std.proofs.Common.{◌≡◌, suc, true, [], ◌∷◌, ◌++◌, Some, refl, ◌∙◌, ap}
 use Rattle.mdr_core.specs.Bits.{bit_of, of_bits}
 use Rattle.mdr_core.specs.Code.{Codes}
 use Rattle.mdr_meaning.proofs.NumberLaws.{type_same}
@@ -21,8 +21,8 @@ use Rattle.mdr_split.specs.Kernel.{SplitRun, first_kernel, split_commands, split
 use Rattle.mdr_split.specs.Law.{IsHonest}
 use Rattle.mdr_split.specs.State.{Pending}
 use Rattle.mdr_split.specs.User.{first_user, user_after}
-use Rattle.mdr_split_worked.proofs.Following.{AllLegal, legal_run, legal_so}
-use Rattle.mdr_split_worked.specs.Worked.{CallbackSpells, CallsBackTwice, MayNotCallBack, call_go, end_of, go_lines, takes_word, twice, twice_answers, twice_copy, twice_outcome, twice_sent}
+use Rattle.mdr_split_worked.proofs.Following.{AllLegal, first_run, first_so}
+use Rattle.mdr_split_worked.specs.Worked.{CallbackSpells, CallsBackTwice, MayNotCallBack, call_go, end_of, go_lines, takes_word, twice, twice_answers, twice_copy, twice_first, twice_later, twice_outcome, twice_sent}
 use Rattle.mdr_watched.specs.Watched.{calls_back, watched_of}
 
 -- ---- what the kernel half asks of the function that the first reply stores: its type, and whether its address is taken
@@ -32,22 +32,22 @@ takes_is_same = type_same takes_word
 
 done_is_named : names_of twice.program ≡ 0 ∷ []
 unfolding body_names global_names
-done_is_named = ap (λ (body : Codes). all_code_names body ++ []) (same_body go_lines)
+done_is_named = ap (λ (body : Codes). (all_code_names body ++ []) ++ []) (same_body go_lines)
 
 -- ---- the run
 
 abbrev begins : Pending
 begins = split_commands twice call_go.commands (first_kernel twice call_go 1000000)
 
-legal : AllLegal twice twice_answers begins
+legal : AllLegal twice (twice_first ∷ []) begins
 unfolding passes cut calls_back is_atomic is_any_spinning
-legal = (rw (takes_is_same, done_is_named) refl, (refl, (refl, (refl, (refl, (refl, (refl, tt)))))))
+legal = (rw (takes_is_same, done_is_named) refl, tt)
 
-run_is : split_run twice call_go 1000000 (read twice_answers) ≡ legal_run twice twice_answers begins
+run_is : split_run twice call_go 1000000 (read twice_answers) ≡ first_run twice twice_first twice_later begins
 unfolding split_run
-run_is = legal_so twice twice_answers begins legal
+run_is = first_so twice twice_first twice_later begins legal
 
-sent : (legal_run twice twice_answers begins).sent ≡ twice_sent
+sent : (first_run twice twice_first twice_later begins).sent ≡ twice_sent
 unfolding passes cut calls_back is_atomic is_any_spinning
 sent = refl
 
@@ -55,11 +55,11 @@ honest : IsHonest twice [] twice_sent twice_answers
 unfolding passes cut calls_back is_atomic is_any_spinning
 honest = (refl, (refl, (refl, (refl, (refl, (refl, (refl, tt)))))))
 
-end : end_of (legal_run twice twice_answers begins).pending ≡ Some ends.Ok
+end : end_of (first_run twice twice_first twice_later begins).pending ≡ Some ends.Ok
 unfolding passes cut calls_back is_atomic is_any_spinning
 end = refl
 
-outcome : outcome_of twice.program (finish ends.Ok (kernel_in (legal_run twice twice_answers begins).pending).world) ≡ twice_outcome
+outcome : outcome_of twice.program (finish ends.Ok (kernel_in (first_run twice twice_first twice_later begins).pending).world) ≡ twice_outcome
 unfolding passes cut calls_back is_atomic is_any_spinning
 outcome = refl
 
@@ -67,7 +67,7 @@ watched : outcome_of twice.program (watched_of twice call_go 1000000) ≡ twice_
 unfolding passes cut calls_back is_atomic is_any_spinning
 watched = refl
 
-kernel : (kernel_in (legal_run twice twice_answers begins).pending).agreed ≡ twice_copy
+kernel : (kernel_in (first_run twice twice_first twice_later begins).pending).agreed ≡ twice_copy
 unfolding passes cut calls_back is_atomic is_any_spinning
 kernel = refl
 

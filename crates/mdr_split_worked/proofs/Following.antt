@@ -127,3 +127,17 @@ legal_so d (a ∷ answers) (Over end k) h = refl
 legal_so d (a ∷ answers) (Waits m k upcall rest script) h =
     ap (λ (r : SplitRun). record { sent = m ∷ r.sent; pending = r.pending })
     (ap (run_from_pending d (read answers)) (takes_so d a k upcall rest script h.0) ∙ legal_so d answers (takes d a (reply_of a) k upcall rest script) h.1)
+
+-- the same of the first answer alone
+
+abbrev pub first_run : Driver → (a : Message) → List Message → Pending → SplitRun
+first_run d a answers (Over end k) = record { sent = []; pending = Over end k }
+first_run d a answers (Waits m k upcall rest script) =
+    let later : SplitRun = run_from_pending d (read answers) (takes d a (reply_of a) k upcall rest script) in
+    record { sent = m ∷ later.sent; pending = later.pending }
+
+pub first_so : (d : Driver) (a : Message) (answers : List Message) (p : Pending) → AllLegal d (a ∷ []) p → run_from_pending d (read (a ∷ answers)) p ≡ first_run d a answers p
+unfolding run_from_pending
+first_so d a answers (Over end k) h = refl
+first_so d a answers (Waits m k upcall rest script) h =
+    ap (λ (r : SplitRun). record { sent = m ∷ r.sent; pending = r.pending }) (ap (run_from_pending d (read answers)) (takes_so d a k upcall rest script h.0))

@@ -366,16 +366,22 @@ twice_sent =
     ∷ message.Back 999989 wire.NoValue (told [] [] all_seen (holds 0 0 (u32_value 2) ∷ []))
     ∷ []
 
-abbrev pub twice_answers : List Message
-twice_answers =
-    message.Down 2 (at_stmt 2 2) 1 1 (u32_value 1 ∷ []) (holds 2 0 (wire.Fn 0) ∷ [])
-    ∷ message.Ask 2 (at_stmt 0 2) 5 (u32_value 1 ∷ u32_value 3 ∷ []) [] [] (holds 1 0 (u32_value 1) ∷ [])
+-- with the first downcall goes the pointer that was set
+abbrev pub twice_first : Message
+twice_first = message.Down 2 (at_stmt 2 2) 1 1 (u32_value 1 ∷ []) (holds 2 0 (wire.Fn 0) ∷ [])
+
+abbrev pub twice_later : List Message
+twice_later =
+    message.Ask 2 (at_stmt 0 2) 5 (u32_value 1 ∷ u32_value 3 ∷ []) [] [] (holds 1 0 (u32_value 1) ∷ [])
     ∷ message.Return 0 wire.NoValue []
     ∷ message.Down 1 (at_stmt 2 3) 1 1 (u32_value 2 ∷ []) []
     ∷ message.Ask 2 (at_stmt 0 2) 5 (u32_value 2 ∷ u32_value 3 ∷ []) [] [] (holds 1 0 (u32_value 12) ∷ [])
     ∷ message.Return 0 wire.NoValue []
     ∷ message.Return 1 wire.NoValue (holds 1 0 (u32_value 14) ∷ [])
     ∷ []
+
+abbrev pub twice_answers : List Message
+twice_answers = twice_first ∷ twice_later
 
 abbrev pub twice_outcome : Outcome
 twice_outcome =
