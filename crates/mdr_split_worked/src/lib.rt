@@ -5,4 +5,7 @@
 
 mod worked;
 
-pub use worked::{callbacks_are_spelled, callbacks_are_told, callbacks_may_not_wait, devices_keep_time, graphs_are_told};
+pub use worked::{
+    callbacks_are_spelled, callbacks_are_told, callbacks_may_not_wait, devices_keep_time,
+    graphs_are_told,
+};
