@@ -1,4 +1,4 @@
-"""Places in a driver's source: words, statements by their numbers, and what isn't built yet.
+"""Places in a driver's source: words, and statements by their numbers.
 
 It reads the tokens of a source, and of its functions as much as numbers of statements need. It judges nothing: what it
 says of a source that the program refuses is a guess."""
@@ -240,11 +240,3 @@ def statement(text, function, number):
             at = Body(tokens, body).places[number - 1] if number else name
             return place_of(text, tokens[at].at)
     return None
-
-
-# ---- what isn't built yet
-
-def first_unbuilt(text):
-    """The line and the column of the first form in a source that seems not to be built yet, and what it seems to be."""
-    found = next((it for it in tokens_of(text) if it.text == 'kcall'), None)
-    return (*place_of(text, found.at), 'kcall isn\'t built yet') if found else None

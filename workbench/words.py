@@ -51,10 +51,7 @@ SOURCE = {
         'Define it, or take its prototype away: a driver is one file, and what the kernel gives are the services alone.'),
     'BadArity': (
         'This call has more or fewer arguments than it takes.',
-        'Of printk: one for each directive of its text.'),
-    'Unbuilt': (
-        'The source calls kcall, which isn\'t built yet; for want of a place that is told at 1:1, behind all faults of types.',
-        'The kernel half can\'t call back into the user half: let it return what the user half is to do next.'),
+        'Of printk: one for each directive of its text; of kcall: a function of one parameter, and its argument.'),
 }
 
 LEFT_OUT = {
@@ -157,8 +154,10 @@ STOPS = {
         'The budget of ticks is used up.',
         'Give more by --ticks N (1,000,000 without it), or look for a loop that doesn\'t end.'),
     'Atomic': (
-        'The kernel half called back into the user half where it may not wait.',
-        'Neither an interrupt\'s handler nor code that holds a lock may do so.'),
+        'The kernel half called back into the user half where it may not wait: in an interrupt\'s handler, or while a lock is held that '
+        'was taken with no call of the user half open.',
+        'Free the lock first (one that an earlier command left held counts, too). Let a handler note what came, and a function that the '
+        'layer above calls, call back.'),
 }
 
 STATUSES = {
@@ -174,7 +173,7 @@ STATUSES = {
     9: 'Memory was wanting, and nothing was printed. A driver that allocates and never frees, or a very large budget, takes that much.',
     10: 'A file isn\'t there.',
     11: 'A file is too large: a source has at most 1 MiB, a script 256 KiB, a transcript 64 MiB.',
-    12: 'Three texts aren\'t those that one source is cut into. (The command that tells this isn\'t built yet.)',
+    12: 'Three texts aren\'t those that one source is cut into: "halves refused T LINE" says which of them, and where.',
     13: 'The transcript isn\'t what run split FILE SCRIPT --wire prints: "differs .." says from which line, message or answer on.',
     14: 'The words couldn\'t be had from the system (one isn\'t UTF-8), or the program couldn\'t be built.',
 }
@@ -192,7 +191,7 @@ SERVICES = {
     'combolock': 'combolock(&l) takes a lock, a combolock_t; interrupts wait while it is held. Both halves may take it.',
     'combounlock': 'combounlock(&l) frees a lock that is held.',
     'BUG': 'BUG() stops the run: what the driver says can\'t be.',
-    'kcall': 'kcall(f, a) calls a function of the user half from the kernel half. It isn\'t built yet.',
+    'kcall': 'kcall(f, a) calls f, a function of one parameter, with a, and gives its result. By it the kernel half calls the user half, where it may wait: in no handler, and while no lock is held that was taken with no call of the user half open (stop Atomic). A function of the caller\'s own half is called as by f(a).',
 }
 
 ANNOTATIONS = {

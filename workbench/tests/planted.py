@@ -46,6 +46,22 @@ case a sensor comes and goes
     expect sensor null
 """
 
+# A lock that is held where the kernel half calls back.
+HELD = ('adc.c', """		combounlock(&adc.lock);
+		err = kcall(adc.take, value);
+""", """		err = kcall(adc.take, value);
+		combounlock(&adc.lock);
+""")
+HELD_TEST = """driver adc.c
+setup
+    on write STATUS do put STATUS 0, lower
+    call adc_open
+case values are summed up
+    now set STATUS READY, put VALUE 400, raise
+    call adc_poll
+    expect result.values 1 400
+"""
+
 
 def plant(folder, examples, fault):
     """Writes a driver with a fault planted in it into a folder."""

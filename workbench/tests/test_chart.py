@@ -106,6 +106,14 @@ class Charts(unittest.TestCase):
         self.assertIn('"nic_open" [label="nic_open\\nstruct card.state"];', text)
         self.assertIn('"nic_ioctl" -> "op_reset" [style=dotted];', text)
 
+    def test_a_call_back_is_a_call_whose_caller_no_message_tells(self):
+        text, _ = tools.said(chart, tools.example('adc.c'), tools.example('adc.script'))
+        for part in ('|-- call take_limited(1500) ---', '|<-- call adc_drop() ---', '|-- return none ---'):
+            self.assertIn(part, text)
+        text, _ = tools.said(chart, '--graph', tools.example('adc.c'), tools.example('adc.script'))
+        self.assertIn('"adc_poll" -> "take_limited" [style=dashed, color=red];', text)
+        self.assertIn('"take_limited" -> "adc_drop" [style=dashed, color=red, label="1"];', text)
+
     def test_what_is_refused_is_told(self):
         self.assertEqual(tools.said(chart, tools.example('uart.c')), ('', 1))
         self.assertEqual(tools.said(chart, '--graph', tools.example('uart.script')), ('', 2))

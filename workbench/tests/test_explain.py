@@ -30,6 +30,7 @@ STOPPED = [
     ('u32 a;\nvoid f(void) {\n\tu32 b;\n\ta = 1 / b;\n}\n', 'DivZero', 4, 'Test the divisor first.'),
     ('struct d { u8 *b; }; struct d d; u32 a;\n__critical void g(void) { d.b = kcalloc(4, u8); }\nvoid f(void) {\n\tg();\n\ta = d.b[2];\n}\n', 'Annotation', 5, '__array(LENGTH)'),
     ('void f(void) {\n\tBUG();\n}\n', 'Bug', 2, 'BUG() ran.'),
+    ('combolock_t l;\nvoid done(u32 n) { }\n__critical void f(void) {\n\tcombolock(&l);\n\tkcall(done, 1);\n}\n', 'Atomic', 5, 'Free the lock first'),
 ]
 
 
@@ -54,7 +55,7 @@ class Words(unittest.TestCase):
     def test_kinds_of_messages_are_those_that_there_are(self):
         messages = importlib.import_module('messages')
         self.assertEqual(list(tables.MESSAGES), list(messages.KINDS))
-        self.assertEqual({it for it in messages.STOPS if it} | {'Atomic'}, set(tables.STOPS))
+        self.assertEqual({it for it in messages.STOPS if it}, set(tables.STOPS))
 
 
 class Runs(unittest.TestCase):
@@ -85,11 +86,6 @@ class Runs(unittest.TestCase):
             self.assertIn(f'd.c:{line}:{column}: {kind}', told)
             self.assertIn(f'{int(line):5} | {shown}\n      | {" " * (int(column) - 1)}{caret}\n', told)
             self.assertIn(sentence, ' '.join(told.split()))
-
-    def test_a_form_that_waits_is_found(self):
-        alone, told = self.explained('void (*h)(u32 a);\nvoid f(void) {\n\tkcall(h, 1);\n}\n')
-        if 'Unbuilt' in alone.stdout:
-            self.assertIn('kcall', told)
 
     def test_a_refused_script_has_its_line(self):
         _, told = self.explained('void f(u32 n) { }\n', 'call f 1\ncall f one\n')

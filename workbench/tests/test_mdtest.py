@@ -143,6 +143,16 @@ case now
         status, lines = self.mdtest('driver d.c\ncase one\ncall f\ncase two\ncall f\nexpect leaked 1\n', '--ways', 'whole', driver='d.c')
         self.assertEqual((status, lines[1:4]), (1, ['not ok 1 - a.mdt: one', '# a.mdt:2: expected leaked 0, came 1 block leaked', 'ok 2 - a.mdt: two']))
 
+    def test_a_call_back_under_a_lock_stops_in_halves_alone(self):
+        planted.plant(self.room, EXAMPLES, planted.HELD)
+        status, lines = self.mdtest(planted.HELD_TEST, driver='adc.c')
+        self.assertEqual((status, lines[1]), (1, 'not ok 1 - a.mdt: values are summed up'))
+        self.assertIn('# a.mdt:5: expected end ok, came stop Atomic at adc_poll 9 (watched, split)', lines)
+
+    def test_a_call_back_behind_it_stops_nowhere(self):
+        status, lines = self.mdtest(planted.HELD_TEST, driver='adc.c')
+        self.assertEqual((status, lines[1]), (0, 'ok 1 - a.mdt: values are summed up'))
+
 
 class TestSweeps(Run):
     def test_a_sweep_finds_the_race(self):
