@@ -3,6 +3,7 @@
 mod answers;
 mod cuts;
 mod files;
+mod nested;
 mod output;
 mod seeds;
 mod sent;

@@ -1,5 +1,7 @@
 // Messages to the user half, and its replies, as bytes from outside.
 
+mod nested;
+
 use crate::expect::expect;
 use crate::hex::bytes_of;
 use mdr_far::{LoadError, LocalFar, UserHalf};
