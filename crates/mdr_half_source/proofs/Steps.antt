@@ -1,9 +1,9 @@
 -- What a user half's text comes to, from one stage to the next.
-use Rattle.std.proofs.Common.{◌≡◌, refl, sym, subst, ap, ◌∙◌, ℕ, Bool, true, false, List, Option, Some, None, Result, Ok, Err}
-use Rattle.std.specs.Prelude.{IfOk, MatchOption}
+use Rattle.std.proofs.Common.{◌≡◌, refl, sym, subst, ◌∙◌, ℕ, true, List, Option, Some, None, Result, Ok, Err}
+use Rattle.std.specs.Prelude.{IfOk, MatchResult}
+use Rattle.std.specs.Result.{result_ok}
 use Rattle.mdr_core.specs.declared.memory_error.OutOfMemory.{OutOfMemory}
 use Rattle.mdr_core.specs.declared.plan.Plan.{Plan}
-use Rattle.mdr_core.specs.declared.program.Func.{Func}
 use Rattle.mdr_core.specs.declared.program.Program.{Program}
 use Rattle.mdr_core.specs.Sound.{HasFewNumbers}
 use Rattle.mdr_syntax.specs.declared.error.LexError.{LexError}
@@ -20,31 +20,18 @@ use Rattle.mdr_faults.specs.Faults.{Checked, Right, IsFirst}
 use Rattle.mdr_plan.specs.declared.plan_error.PlanKind.{PlanKind}
 use Rattle.mdr_plan.specs.Texts.{IsFault, IsPlanText}
 use Rattle.mdr_plan.proofs.Running.{no_fault}
-use Rattle.mdr_source.specs.Backs.{functions_call_back}
-use Rattle.mdr_half_source.specs.Loads.{AreRefused, Loads}
-use Rattle.mdr_half_source.specs.Stages.{Finds, HasHalf, IsFaulty, IsFound, IsMissing, IsNone, IsSmall, Judged, Reading, typed_half}
+use Rattle.mdr_half_source.specs.Loads.{AreRefused, ComesTo, Loads}
+use Rattle.mdr_half_source.specs.Stages.{Finds, HasHalf, IsFaulty, IsMissing, IsNone, IsSmall, Judged, Reading, typed_half}
 
 -- ---- programs
 
--- what is said of a program that perhaps calls back
-abbrev Settled : (back : Bool) → Program → Option Program → Type 0
-Settled back program o = MatchOption o (back ≡ true) (λ p. (p ≡ program) × (back ≡ false))
+-- where there is a fault no program is right
+faulty : (c : Checked Program) (f : Fault) → IsFirst f c → IsNone c
+faulty c f i = λ program is. subst (λ (d : Checked Program). IsFirst f d) is i
 
-same_right : (p q : Program) → Right p ≡ Right q → p ≡ q
-same_right p q e = cc
-
-pub kept_program : (program : Program) (fs : List Func) (back : Bool) (o : Option Program) → fs ≡ program.funcs → back ≡ functions_call_back fs → Settled back program o → Judged (Right program) o
-kept_program program fs back None e b s = λ other is.
-    ap functions_call_back (sym (e ∙ ap (λ (p : Program). p.funcs) (same_right program other is))) ∙ sym b ∙ s
-kept_program program fs back (Some p) e b (same, none) =
-    record { right = ap Right (sym same); no_back = ap (λ (x : Program). functions_call_back x.funcs) same ∙ ap functions_call_back (sym e) ∙ sym b ∙ none }
-
-no_first : {A : Type 0} (c : Checked Program) (p : Program) (f : Fault) → c ≡ Right p → IsFirst f c → A
-no_first c p f e i = absurd (subst (λ (d : Checked Program). IsFirst f d) e i)
-
--- a program with a fault isn't right
-pub faulty : (c : Checked Program) (f : Fault) → IsFirst f c → IsNone c
-faulty c f i = λ program is. no_first c program f is i
+pub judged_found : (c : Checked Program) (found : Result Program Fault) (o : Option Program) → o ≡ result_ok found → MatchResult found (λ p. c ≡ Right p) (λ f. IsFirst f c) → Judged c o
+judged_found c (Ok program) o e is = subst (Judged c) (sym e) is
+judged_found c (Err f) o e is = subst (Judged c) (sym e) (faulty c f is)
 
 -- ---- tokens
 
@@ -75,27 +62,24 @@ same_tokens : (ts us : List Token) → ◌≡◌ {A = Result (List Token) LexErr
 same_tokens ts us e = cc
 
 pub found_tokens : (user : List ℕ) (plan : Plan) (ts : List Token) (o : Option Program) → tokens_of user ≡ Ok ts → Reading plan ts o → Finds user plan o
-found_tokens user plan ts (Some program) e r = record {
-  comes = record { tokens = ts; tree = r.tree; lexed = e; read = r.reads; typed = (r.right).right };
-  no_back = (r.right).no_back;
-}
+found_tokens user plan ts (Some program) e r = record { tokens = ts; tree = r.tree; lexed = e; read = r.reads; typed = r.right }
 found_tokens user plan ts None e r = λ program is.
     let same : is.tokens ≡ ts = same_tokens is.tokens ts (sym is.lexed ∙ e) in
     r is.tree (subst (λ (us : List Token). Reads true us is.tree) same is.read) program is.typed
 
 -- bytes that are no tokens
 pub no_tokens : (user : List ℕ) (plan : Plan) (x : LexError) → tokens_of user ≡ Err x → IsMissing user plan
-no_tokens user plan x e = λ program is. differ (functions_call_back program.funcs) is.tokens (sym is.lexed ∙ e)
+no_tokens user plan x e = λ program is. differ is.tokens (sym is.lexed ∙ e)
   where
-    differ : (b : Bool) (ts : List Token) → ◌≡◌ {A = Result (List Token) LexError} (Ok ts) (Err x) → b ≡ true
-    differ b ts q = absurd cc
+    differ : (ts : List Token) → ◌≡◌ {A = Result (List Token) LexError} (Ok ts) (Err x) → ⊥
+    differ ts q = absurd cc
 
 same_found : (p q : Program) → Some p ≡ Some q → p ≡ q
 same_found p q e = cc
 
-small_by : (user : List ℕ) (plan : Plan) (program : Program) (o : Option Program) → o ≡ Some program → HasFewNumbers program → IsFound user plan program → HasHalf user plan o
+small_by : (user : List ℕ) (plan : Plan) (program : Program) (o : Option Program) → o ≡ Some program → HasFewNumbers program → ComesTo user plan program → HasHalf user plan o
 small_by user plan program None e few f = absurd cc
-small_by user plan program (Some p) e few f = subst (IsSmall user plan) (sym (same_found p program e)) (record { found = f; numbers = few })
+small_by user plan program (Some p) e few f = subst (IsSmall user plan) (sym (same_found p program e)) (record { comes = f; numbers = few })
 
 -- what is found is a half if its numbers are few
 pub small_half : (user : List ℕ) (plan : Plan) (found : Option Program) (program : Program) (r : Result (Option Program) OutOfMemory) → found ≡ Some program → Finds user plan found
@@ -109,7 +93,7 @@ no_half user plan found e f = subst (Finds user plan) e f
 -- ---- both texts
 
 pub loads_half : (user text : List ℕ) (plan : Plan) (program : Program) → IsPlanText text plan → IsSmall user plan program → Loads user text program plan
-loads_half user text plan program is h = record { planned = is; comes = (h.found).comes; no_back = (h.found).no_back; numbers = h.numbers }
+loads_half user text plan program is h = record { planned = is; comes = h.comes; numbers = h.numbers }
 
 pub refused_half : (user text : List ℕ) (plan : Plan) → IsPlanText text plan → IsMissing user plan → AreRefused user text 2
 refused_half user text plan is none = AreRefused.no_program plan refl is none

@@ -1,6 +1,6 @@
 -- protocol
 -- The program of a user half's text, stage by stage.
-use Rattle.std.specs.Prelude.{◌≡◌, ℕ, true, false, List, Option, Some, None}
+use Rattle.std.specs.Prelude.{◌≡◌, ℕ, true, List, Option, Some, None}
 use Rattle.mdr_core.specs.declared.plan.Plan.{Plan}
 use Rattle.mdr_core.specs.declared.program.Program.{Program}
 use Rattle.mdr_core.specs.Sound.{HasFewNumbers}
@@ -14,31 +14,25 @@ use Rattle.mdr_body.specs.Bodies.{body_rule}
 use Rattle.mdr_body.specs.Uses.{first_use}
 use Rattle.mdr_typing.specs.Profile.{profile_rules}
 use Rattle.mdr_check_half.specs.HalfPrograms.{half_typed}
-use Rattle.mdr_source.specs.Backs.{functions_call_back}
 use Rattle.mdr_half_source.specs.Loads.{ComesTo}
 
 -- the program of a tree with a plan, or all faults in it
 abbrev pub typed_half : Plan → Tree → Checked Program
 typed_half plan tree = half_typed (body_rule profile_rules) first_use plan tree.items
 
--- a program that is right and calls nothing back
-pub record IsRight (c : Checked Program) (program : Program) : Type 0 where
-  pub right : c ≡ Right program
-  pub no_back : functions_call_back program.funcs ≡ false
-
--- one that is right calls back
+-- no program is right
 abbrev pub IsNone : Checked Program → Type 0
-IsNone c = (program : Program) → c ≡ Right program → functions_call_back program.funcs ≡ true
+IsNone c = (program : Program) → c ≡ Right program → ⊥
 
 abbrev pub Judged : Checked Program → Option Program → Type 0
-Judged c (Some program) = IsRight c program
+Judged c (Some program) = c ≡ Right program
 Judged c None = IsNone c
 
--- the tokens are read as a tree of such a program
+-- the tokens are read as a tree of the program
 pub record IsRead (plan : Plan) (ts : List Token) (program : Program) : Type 0 where
   pub tree : Tree
   pub reads : Reads true ts tree
-  pub right : IsRight (typed_half plan tree) program
+  pub right : typed_half plan tree ≡ Right program
 
 abbrev pub Reading : Plan → List Token → Option Program → Type 0
 Reading plan ts (Some program) = IsRead plan ts program
@@ -50,21 +44,17 @@ IsFaulty (parse.NotInProfile p word) = Unit {0}
 IsFaulty (parse.Expected p) = Unit {0}
 IsFaulty parse.OutOfMemory = ⊥
 
--- the bytes come to such a program
-pub record IsFound (user : List ℕ) (plan : Plan) (program : Program) : Type 0 where
-  pub comes : ComesTo user plan program
-  pub no_back : functions_call_back program.funcs ≡ false
-
+-- the bytes come to no program
 abbrev pub IsMissing : List ℕ → Plan → Type 0
-IsMissing user plan = (program : Program) → ComesTo user plan program → functions_call_back program.funcs ≡ true
+IsMissing user plan = (program : Program) → ComesTo user plan program → ⊥
 
 abbrev pub Finds : List ℕ → Plan → Option Program → Type 0
-Finds user plan (Some program) = IsFound user plan program
+Finds user plan (Some program) = ComesTo user plan program
 Finds user plan None = IsMissing user plan
 
--- and its types, globals, structs and functions are few
+-- they come to the program, whose types, globals, structs and functions are few
 pub record IsSmall (user : List ℕ) (plan : Plan) (program : Program) : Type 0 where
-  pub found : IsFound user plan program
+  pub comes : ComesTo user plan program
   pub numbers : HasFewNumbers program
 
 abbrev pub HasHalf : List ℕ → Plan → Option Program → Type 0

@@ -1,6 +1,6 @@
 // The plan and the program of two texts, or which of the two is none.
 
-ghost use Rattle.std.specs.Prelude.{◌≡◌, ℕ, true, false, List, Some, None, IfOk, MatchResult, MatchOption};
+ghost use Rattle.std.specs.Prelude.{◌≡◌, ℕ, List, Some, None, IfOk, MatchResult};
 ghost use Rattle.mdr_core.specs.declared.plan.Plan.{Plan as AnyPlan};
 ghost use Rattle.mdr_core.specs.declared.program.Program.{Program as AnyProgram};
 ghost use Rattle.mdr_core.specs.Sound.{HasFewNumbers};
@@ -18,34 +18,16 @@ use mdr_express::left_over;
 use mdr_faults::Fault;
 use mdr_parse::{ParseError, parse};
 use mdr_plan::{PlanError, read_plan};
-use mdr_source::functions_call_back;
 use mdr_syntax::{LexError, Token, Tree, tokens};
 use mdr_typing::ProfileRules;
 use std::alloc::Global;
 
 // ---- programs
 
-/// A program that perhaps calls back.
-fn settled<P: Drop>(is_back: bool, program: P) -> Option<P>
-    ensures { MatchOption result (is_back ≡ true) (λ p. (p ≡ program) × (is_back ≡ false)) }
-{
-    if is_back { None } else { Some(program) }
-}
-
-fn kept(program: Program) -> Option<Program>
-    ensures { Judged (Right program) result }
-{
-    let is_back = functions_call_back(program.funcs.as_slice());
-    settled(is_back, program)
-}
-
 fn judged(found: Result<Program, Fault>) -> Option<Program>
     ensures { (c : Checked AnyProgram) → MatchResult found (λ p. c ≡ Right p) (λ f. IsFirst f c) → Judged c result }
 {
-    match found {
-        Ok(program) => kept(program),
-        Err(_) => None,
-    }
+    found.ok()
 }
 
 fn means(alloc: Global, plan: &Plan, tree: &Tree) -> Result<Option<Program>, OutOfMemory>

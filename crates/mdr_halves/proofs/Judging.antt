@@ -1,5 +1,5 @@
 -- What a tree means doesn't depend on its places.
-use Rattle.std.proofs.Common.{◌≡◌, ℕ, Bool, true, false, List, Result, Ok, Err, refl, sym, ap, subst, ◌∙◌}
+use Rattle.std.proofs.Common.{◌≡◌, ℕ, List, Result, Ok, Err, refl, sym, subst, ◌∙◌}
 use Rattle.mdr_core.specs.declared.program.Program.{Program}
 use Rattle.mdr_faults.specs.declared.fault.Fault.{Fault}
 use Rattle.mdr_faults.specs.Faults.{Checked, Right, IsFirst, first}
@@ -7,46 +7,38 @@ use Rattle.mdr_faults.proofs.Least.{first_is_in, first_is_least}
 use Rattle.mdr_placeless.specs.Alike.{AreAlike}
 use Rattle.mdr_placeless.proofs.Programs.{programs_alike, right_same}
 use Rattle.mdr_roundtrip.specs.Itemised.{unplaced_tree}
+use Rattle.mdr_sound.proofs.Rights.{same_right}
 use Rattle.mdr_source.specs.declared.outcome.Source.{Source}
 use Rattle.mdr_source.specs.declared.refusal.Refusal.{Refusal}
 use Rattle.mdr_source.specs.declared.refusal.Refusal.TheVariants as refusals
-use Rattle.mdr_source.specs.Backs.{functions_call_back}
 use Rattle.mdr_source.specs.Sources.{Comes, Judged, Means, typed_tree}
 use Rattle.mdr_source.proofs.Whose.{come_source}
 use Rattle.mdr_syntax.specs.declared.tree.Tree.{Tree}
 
 -- ---- a tree that is right
 
--- what is known of the tree of a program
-pub record IsRight (tree : Tree) (program : Program) : Type 0 where
-  pub judged : typed_tree tree ≡ Right program
-  pub no_back : functions_call_back program.funcs ≡ false
+-- a program is that of the tree
+abbrev pub IsRight : Tree → Program → Type 0
+IsRight tree program = typed_tree tree ≡ Right program
 
 pub source_right : (bytes : List ℕ) (source : Source) → Comes bytes (Ok source) → IsRight source.tree source.program
-source_right bytes source comes = let s = come_source bytes source comes in record { judged = s.judged; no_back = s.no_back }
+source_right bytes source comes = (come_source bytes source comes).judged
 
 pub right_moved : (a b : Tree) (program : Program) → unplaced_tree a ≡ unplaced_tree b → IsRight a program → IsRight b program
-right_moved a b program e r = record { judged = right_same program (programs_alike a b e) r.judged; no_back = r.no_back }
-
-one_right : (c : Checked Program) (p q : Program) → c ≡ Right p → c ≡ Right q → p ≡ q
-one_right c p q d e = cc
+right_moved a b program e r = right_same program (programs_alike a b e) r
 
 pub same_program : (tree : Tree) (p q : Program) → IsRight tree p → IsRight tree q → p ≡ q
-same_program tree p q r s = one_right (typed_tree tree) p q r.judged s.judged
+same_program tree p q r s = same_right p q (sym r ∙ s)
 
 pub source_means : (bytes : List ℕ) (source : Source) (other : Tree) → Comes bytes (Ok source) → unplaced_tree source.tree ≡ unplaced_tree other → Means other (Ok source.program)
 source_means bytes source other comes e =
-    let r = right_moved source.tree other source.program e (source_right bytes source comes) in
-    Judged.right source.program r.judged r.no_back (come_source bytes source comes).numbers
+    Judged.right source.program (right_moved source.tree other source.program e (source_right bytes source comes)) (come_source bytes source comes).numbers
 
 -- ---- a tree that is refused
 
 pub record IsRefused (tree : Tree) : Type 0 where
   pub refusal : Refusal
   pub means : Means tree (Err refusal)
-
-not_both : {b : Bool} → b ≡ true → b ≡ false → ⊥
-not_both e d = absurd cc
 
 abbrev pub IsErr : {A B : Type 0} → Result A B → Type 0
 IsErr (Ok x) = ⊥
@@ -59,8 +51,7 @@ judged_moved b c _ h (Judged.fault f i) e = by c (typed_tree b) refl h i
     by : (c d : Checked Program) → typed_tree b ≡ d → AreAlike c d → IsFirst f c → IsRefused b
     by _ _ k (AreAlike.Rights x) i = absurd i
     by _ _ k (AreAlike.Wrongs fs gs) i = record { refusal = refusals.Fault (first gs); means = subst (λ (d : Checked Program). Judged d (Err (refusals.Fault (first gs)))) (sym k) (Judged.fault (first gs) (first_is_in gs, first_is_least gs)) }
-judged_moved b c _ h (Judged.back program is back) e = record { refusal = refusals.Unbuilt; means = Judged.back program (right_same program h is) back }
-judged_moved b c _ h (Judged.right program is back few) e = absurd e
+judged_moved b c _ h (Judged.right program is few) e = absurd e
 
 pub refused_moved : (a b : Tree) (o : Result Program Refusal) → unplaced_tree a ≡ unplaced_tree b → Means a o → IsErr o → IsRefused b
 refused_moved a b o e j t = judged_moved b (typed_tree a) o (programs_alike a b e) j t
@@ -71,10 +62,8 @@ no_first : (c : Checked Program) (p : Program) (f : Fault) → c ≡ Right p →
 no_first c p f e i = subst (λ (d : Checked Program). IsFirst f d) e i
 
 judged_once : (tree : Tree) (program : Program) (o : Result Program Refusal) → IsRight tree program → Judged (typed_tree tree) o → IsErr o → ⊥
-judged_once tree program _ r (Judged.fault f i) t = no_first (typed_tree tree) program f r.judged i
-judged_once tree program _ r (Judged.back q is back) t =
-    not_both back (ap (λ (p : Program). functions_call_back p.funcs) (one_right (typed_tree tree) q program is r.judged) ∙ r.no_back)
-judged_once tree program _ r (Judged.right q is back few) t = t
+judged_once tree program _ r (Judged.fault f i) t = no_first (typed_tree tree) program f r i
+judged_once tree program _ r (Judged.right q is few) t = t
 
 pub not_refused : (tree : Tree) (program : Program) (o : Result Program Refusal) → IsRight tree program → Means tree o → IsErr o → ⊥
 not_refused tree program o r j t = judged_once tree program o r j t
@@ -85,8 +74,7 @@ IsRightOf tree (Err e) = Unit {0}
 
 judged_right : (tree : Tree) (o : Result Program Refusal) → Judged (typed_tree tree) o → IsRightOf tree o
 judged_right tree _ (Judged.fault f i) = tt
-judged_right tree _ (Judged.back q is back) = tt
-judged_right tree _ (Judged.right q is back few) = record { judged = is; no_back = back }
+judged_right tree _ (Judged.right q is few) = is
 
 pub meaning_right : (tree : Tree) (o : Result Program Refusal) → Means tree o → IsRightOf tree o
 meaning_right tree o j = judged_right tree o j

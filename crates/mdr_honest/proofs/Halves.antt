@@ -1,5 +1,5 @@
 -- What texts that are loaded come to.
-use Rattle.std.proofs.Common.{◌≡◌, ℕ, Bool, true, false, List, Result, Ok, sym, ap, ◌∙◌, subst}
+use Rattle.std.proofs.Common.{◌≡◌, ℕ, true, List, Result, Ok, sym, ap, ◌∙◌, subst}
 use Rattle.mdr_core.specs.declared.plan.Plan.{Plan}
 use Rattle.mdr_core.specs.declared.program.Program.{Program}
 use Rattle.mdr_syntax.specs.declared.token.Token.{Token}
@@ -40,14 +40,11 @@ loads_once user text program other plan another a b =
 
 -- ---- what is loaded isn't refused
 
-not_both : {b : Bool} → b ≡ true → b ≡ false → ⊥
-not_both e d = absurd cc
-
 pub not_refused : LoadedTextsAreNotRefused
 not_refused user text program plan cause h (AreRefused.no_plan e none) = none plan h.planned
 not_refused user text program plan cause h (AreRefused.no_program other e is none) =
     let same : plan ≡ other = plan_once text plan other h.planned is in
-    not_both (none program (subst (λ (p : Plan). ComesTo user p program) same h.comes)) h.no_back
+    none program (subst (λ (p : Plan). ComesTo user p program) same h.comes)
 
 -- ---- what is loaded is sound
 

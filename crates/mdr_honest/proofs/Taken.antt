@@ -1,5 +1,5 @@
 -- The texts of a source's user half and of its plan are loaded.
-use Rattle.std.proofs.Common.{◌≡◌, ℕ, zero, suc, ◌≤◌, Bool, true, false, ◌||◌, List, [], ◌∷◌, length, Some, slice_get, refl, sym, ap, ◌∙◌, subst, arith}
+use Rattle.std.proofs.Common.{◌≡◌, ℕ, zero, suc, ◌≤◌, true, false, List, [], ◌∷◌, length, Some, slice_get, refl, sym, ap, ◌∙◌, subst, arith}
 use Rattle.std.specs.Prelude.{is_some}
 use Rattle.mdr_core.specs.declared.plan.Half.TheVariants.{User}
 use Rattle.mdr_core.specs.declared.plan.Plan.{Plan}
@@ -19,13 +19,12 @@ use Rattle.mdr_typing.specs.Profile.{profile_rules}
 use Rattle.mdr_check.specs.Whole.{file_pieces}
 use Rattle.mdr_program.specs.Programs.{program_of, program_right}
 use Rattle.mdr_source.specs.declared.outcome.Source.{Source}
-use Rattle.mdr_source.specs.Backs.{body_calls_back, functions_call_back}
 use Rattle.mdr_source.specs.Sources.{IsSource}
-use Rattle.mdr_half.specs.Halves.{half_of, is_same_half, user_text, user_tree}
+use Rattle.mdr_half.specs.Halves.{user_text, user_tree}
 use Rattle.mdr_half.specs.Plans.{plan_text}
 use Rattle.mdr_half_program.specs.Bodies.{HaveBodies as HaveEach}
 use Rattle.mdr_half_program.specs.Programs.{IsPartOf}
-use Rattle.mdr_half_program.specs.Sides.{AreShown, IsShown}
+use Rattle.mdr_half_program.specs.Sides.{AreShown}
 use Rattle.mdr_half_program.specs.Reading.{ComesToPart}
 use Rattle.mdr_half_program.specs.Whole.{IsReadOf, IsWhole}
 use Rattle.mdr_half_program.proofs.Sourced.{sources_have}
@@ -47,7 +46,6 @@ use Rattle.mdr_type_table.specs.Tabled.{HasFormedPointers}
 use Rattle.mdr_honest.specs.Plannable.{HasShortNumbers as AreShort}
 use Rattle.mdr_outside.specs.declared.far.LoadAnswer.TheVariants as loads
 use Rattle.mdr_honest.specs.Loading.{AreItsHalf, IsCut, TextsOfSourcesAreLoaded, TextsOfSourcesAreTaken}
-use Rattle.mdr_source.proofs.NothingBack.{none_of}
 use Rattle.mdr_honest.proofs.Halves.{not_refused}
 
 -- ---- a source
@@ -106,26 +104,7 @@ plan_is_read bytes source plan cut =
     (record { tree = source.tree; source = record { tokens = s.tokens; lexed = s.are_tokens; read = s.reads }; right = s.judged })
     (formed_pointers bytes source s) (are_short source.program (source_sound bytes source s)) (has_each source.program is.roots is.halves is.are_halves) is.is_plan
 
--- ---- what a half has of a program that calls nothing back calls nothing back
-
-neither : (a b : Bool) → a ≡ false → b ≡ false → (a || b) ≡ false
-neither true b e d = absurd cc
-neither false b e d = d
-
-shown_back : (mine : Bool) (f g : Func) → IsShown mine f g → body_calls_back f.body ≡ false → body_calls_back g.body ≡ false
-shown_back true f g same none = ap (λ (x : Func). body_calls_back x.body) same ∙ none
-shown_back false f g bare none = ap body_calls_back bare.body
-
-part_back : (plan : Plan) (fs gs : List Func) → AreShown User plan fs gs → functions_call_back fs ≡ false → functions_call_back gs ≡ false
-unfolding functions_call_back
-part_back plan [] [] shown none = refl
-part_back plan [] (g ∷ gs) shown none = absurd shown
-part_back plan (f ∷ fs) [] shown none = refl
-part_back plan (f ∷ fs) (g ∷ gs) shown none =
-    let parts = none_of (body_calls_back f.body) (functions_call_back fs) none in
-    neither (body_calls_back g.body) (functions_call_back gs) (shown_back (is_same_half (half_of plan f.name) User) f g shown.0 parts.0) (part_back plan fs gs shown.1 parts.1)
-
--- ---- and it has as many types, globals, structs and functions
+-- ---- a half has as many types, globals, structs and functions as its program
 
 shown_many : (plan : Plan) (fs gs : List Func) → AreShown User plan fs gs → length gs ≡ length fs
 shown_many plan [] [] shown = refl
@@ -160,7 +139,6 @@ texts_are_loaded bytes source plan cut =
       loaded = record {
         planned = plan_is_read bytes source plan cut;
         comes = record { tokens = printed.tokens; tree = again.read; lexed = printed.is_text; read = again.is_read; typed = r.typed };
-        no_back = subst (λ (p : Program). functions_call_back p.funcs ≡ false) same (part_back plan source.program.funcs (c.part).funcs (c.is_part).funcs s.no_back);
         numbers = subst HasFewNumbers same (part_few plan source.program c.part c.is_part s.numbers);
       };
       replies = r.replies;

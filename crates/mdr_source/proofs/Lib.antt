@@ -1,5 +1,3 @@
-pub mod NothingBack
-pub mod Loops
 pub mod Firsts
 pub mod OneThing
 pub mod Whose

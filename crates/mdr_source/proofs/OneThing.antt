@@ -17,12 +17,8 @@ use Rattle.mdr_faults.specs.Faults.{Checked, Right, IsFirst}
 use Rattle.mdr_source.specs.declared.refusal.Refusal.{Refusal}
 use Rattle.mdr_source.specs.declared.refusal.Refusal.TheVariants as refusal
 use Rattle.mdr_source.specs.declared.outcome.Source.{Source}
-use Rattle.mdr_source.specs.Backs.{functions_call_back}
 use Rattle.mdr_source.specs.Sources.{Judged, Means, Reading, Comes, typed_tree}
 use Rattle.mdr_source.proofs.Firsts.{one_first_fault, one_first}
-
-not_both : {b : Bool} → b ≡ true → b ≡ false → ⊥
-not_both e d = absurd cc
 
 -- ---- programs
 
@@ -32,19 +28,11 @@ no_first c x f e i = subst (λ c. IsFirst f c) e i
 same_program : (c : Checked Program) (p q : Program) → c ≡ Right p → c ≡ Right q → p ≡ q
 same_program c p q d e = cc
 
-back_here : (c : Checked Program) (p q : Program) → c ≡ Right p → c ≡ Right q → functions_call_back p.funcs ≡ true → functions_call_back q.funcs ≡ false → ⊥
-back_here c p q d e s t = not_both (sym (ap (λ (x : Program). functions_call_back x.funcs) (same_program c p q d e)) ∙ s) t
-
 one_judged : (c : Checked Program) (r s : Result Program Refusal) → Judged c r → Judged c s → r ≡ s
 one_judged c _ _ (Judged.fault f i) (Judged.fault g j) = ap (λ h. Err (refusal.Fault h)) (one_first c f g i j)
-one_judged c _ _ (Judged.fault f i) (Judged.back q e t) = absurd (no_first c q f e i)
-one_judged c _ _ (Judged.fault f i) (Judged.right q e t n) = absurd (no_first c q f e i)
-one_judged c _ _ (Judged.back p d s) (Judged.fault g j) = absurd (no_first c p g d j)
-one_judged c _ _ (Judged.back p d s) (Judged.back q e t) = refl
-one_judged c _ _ (Judged.back p d s) (Judged.right q e t n) = absurd (back_here c p q d e s t)
-one_judged c _ _ (Judged.right p d s m) (Judged.fault g j) = absurd (no_first c p g d j)
-one_judged c _ _ (Judged.right p d s m) (Judged.back q e t) = absurd (back_here c q p e d t s)
-one_judged c _ _ (Judged.right p d s m) (Judged.right q e t n) = ap (λ x. Ok x) (same_program c p q d e)
+one_judged c _ _ (Judged.fault f i) (Judged.right q e n) = absurd (no_first c q f e i)
+one_judged c _ _ (Judged.right p d m) (Judged.fault g j) = absurd (no_first c p g d j)
+one_judged c _ _ (Judged.right p d m) (Judged.right q e n) = ap (λ x. Ok x) (same_program c p q d e)
 
 one_meaning : (tree : Tree) (r s : Result Program Refusal) → Means tree r → Means tree s → r ≡ s
 one_meaning tree r s j k = one_judged (typed_tree tree) r s j k
@@ -58,11 +46,15 @@ same_error ts n m e f i j a b = sym a ∙ ap (λ k. error_in (end_place ts) (sli
 moved : (ts : List Token) (tree other : Tree) (r : Result Program Refusal) → Reads false ts tree → Reads false ts other → Means other r → Means tree r
 moved ts tree other r a b m = subst (λ t. Means t r) (one_tree false ts other tree b a) m
 
+-- want of memory refuses nothing: any refusal stands for it
+no_refusal : Refusal
+no_refusal = refusal.Expected (record { line = 1; column = 1 })
+
 -- an error as a refusal
 abbrev refused_by : ParseError → Refusal
 refused_by (parse.NotInProfile p word) = refusal.NotInProfile p word
 refused_by (parse.Expected p) = refusal.Expected p
-refused_by parse.OutOfMemory = refusal.Unbuilt
+refused_by parse.OutOfMemory = no_refusal
 
 no_meaning : {A : Type 0} (ts : List Token) (n : ℕ) (tree : Tree) → FirstFault false ts n → Reads false ts tree → A
 no_meaning ts n tree f r = absurd (no_tree false ts n tree f r)
@@ -105,7 +97,7 @@ lexed (lex.BadByte p) = refusal.BadByte p
 lexed (lex.BadNumber p) = refusal.BadNumber p
 lexed (lex.OpenComment p) = refusal.OpenComment p
 lexed (lex.OpenText p) = refusal.OpenText p
-lexed lex.OutOfMemory = refusal.Unbuilt
+lexed lex.OutOfMemory = no_refusal
 
 -- bytes come to something by their tokens
 data By : Result (List Token) LexError → Result Source Refusal → Type 0 where

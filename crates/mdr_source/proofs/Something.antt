@@ -18,7 +18,6 @@ use Rattle.mdr_faults.specs.Faults.{Checked, Right, Wrong, first}
 use Rattle.mdr_faults.proofs.Least.{first_is_in, first_is_least}
 use Rattle.mdr_source.specs.declared.refusal.Refusal.{Refusal}
 use Rattle.mdr_source.specs.declared.outcome.Source.{Source}
-use Rattle.mdr_source.specs.Backs.{functions_call_back}
 use Rattle.mdr_source.specs.Sources.{Judged, Means, Reading, Comes, IsTooLarge, typed_tree}
 use Rattle.mdr_source.proofs.Lexed.{IsTold, tokens_told}
 
@@ -28,7 +27,6 @@ use Rattle.mdr_source.proofs.Lexed.{IsTold, tokens_told}
 record Large (c : Checked Program) : Type 0 where
   program : Program
   is : c ≡ Right program
-  no_back : functions_call_back program.funcs ≡ false
   many : HasFewNumbers program → ⊥
 
 data Judgement (c : Checked Program) : Type 0 where
@@ -59,17 +57,13 @@ few_or_not program = by (within (length program.types) 16777216) (within (length
     by (inl t) (inl g) (inr s) f = inr (λ few. not_over (length program.structs) few.structs s)
     by (inl t) (inl g) (inl s) (inr f) = inr (λ few. not_over (length program.funcs) few.funcs f)
 
-right_judged : (program : Program) → functions_call_back program.funcs ≡ false → HasFewNumbers program ⊎ (HasFewNumbers program → ⊥) → Judgement (Right program)
-right_judged program b (inl h) = Judgement.come _ (Judged.right program refl b h)
-right_judged program b (inr h) = Judgement.large (record { program = program; is = refl; no_back = b; many = h })
+right_judged : (program : Program) → HasFewNumbers program ⊎ (HasFewNumbers program → ⊥) → Judgement (Right program)
+right_judged program (inl h) = Judgement.come _ (Judged.right program refl h)
+right_judged program (inr h) = Judgement.large (record { program = program; is = refl; many = h })
 
 judgement : (c : Checked Program) → Judgement c
 judgement (Wrong fs) = Judgement.come _ (Judged.fault (first fs) (first_is_in fs, first_is_least fs))
-judgement (Right program) = by_test (functions_call_back program.funcs) refl
-  where
-    by_test : (t : Bool) → functions_call_back program.funcs ≡ t → Judgement (Right program)
-    by_test true e = Judgement.come _ (Judged.back program refl e)
-    by_test false e = right_judged program e (few_or_not program)
+judgement (Right program) = right_judged program (few_or_not program)
 
 data Meaning (tree : Tree) : Type 0 where
   come : (r : Result Program Refusal) → Means tree r → Meaning tree
@@ -91,7 +85,7 @@ data Outcome (bytes : List ℕ) : Type 0 where
 tree_outcome : (bytes : List ℕ) (ts : List Token) (tree : Tree) → tokens_of bytes ≡ Ok ts → Reads false ts tree → Meaning tree → Outcome bytes
 tree_outcome bytes ts tree e r (Meaning.come (Ok program) m) = Outcome.come _ (Comes.tokens ts e (Reading.right tree program r m))
 tree_outcome bytes ts tree e r (Meaning.come (Err x) m) = Outcome.come _ (Comes.tokens ts e (Reading.refused tree x r m))
-tree_outcome bytes ts tree e r (Meaning.large l) = Outcome.large (record { tokens = ts; are_tokens = e; tree = tree; reads = r; program = l.program; judged = l.is; no_back = l.no_back; many = l.many })
+tree_outcome bytes ts tree e r (Meaning.large l) = Outcome.large (record { tokens = ts; are_tokens = e; tree = tree; reads = r; program = l.program; judged = l.is; many = l.many })
 
 fault_outcome : (bytes : List ℕ) (ts : List Token) (n : ℕ) → tokens_of bytes ≡ Ok ts → FirstFault false ts n → Outcome bytes
 fault_outcome bytes ts n e f = by_token (slice_get ts n) refl

@@ -10,7 +10,7 @@ use Rattle.mdr_source.specs.Sources.{Judged, Means, Reading, Comes, IsSource, ty
 
 judged_source : (bytes : List ℕ) (ts : List Token) (tree : Tree) (program : Program) → tokens_of bytes ≡ Ok ts → Reads false ts tree
     → Judged (typed_tree tree) (Ok program) → IsSource bytes (record { tree = tree; program = program })
-judged_source bytes ts tree _ e r (Judged.right program d b n) = record { tokens = ts; are_tokens = e; reads = r; judged = d; no_back = b; numbers = n }
+judged_source bytes ts tree _ e r (Judged.right program d n) = record { tokens = ts; are_tokens = e; reads = r; judged = d; numbers = n }
 
 meant_source : (bytes : List ℕ) (ts : List Token) (tree : Tree) (program : Program) → tokens_of bytes ≡ Ok ts → Reads false ts tree
     → Means tree (Ok program) → IsSource bytes (record { tree = tree; program = program })
@@ -23,4 +23,4 @@ pub come_source : (bytes : List ℕ) (source : Source) → Comes bytes (Ok sourc
 come_source bytes source (Comes.tokens ts e m) = read_source bytes ts source e m
 
 pub source_comes : (bytes : List ℕ) (source : Source) → IsSource bytes source → Comes bytes (Ok source)
-source_comes bytes source s = Comes.tokens s.tokens s.are_tokens (Reading.right source.tree source.program s.reads (Judged.right source.program s.judged s.no_back s.numbers))
+source_comes bytes source s = Comes.tokens s.tokens s.are_tokens (Reading.right source.tree source.program s.reads (Judged.right source.program s.judged s.numbers))

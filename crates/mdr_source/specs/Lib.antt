@@ -1,3 +1,2 @@
-pub mod Backs
 pub mod Sources
 pub mod Lines

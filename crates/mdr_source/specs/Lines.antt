@@ -11,10 +11,6 @@ use Rattle.mdr_source.specs.declared.refusal.Refusal.TheVariants as refusal
 unfoldable pub source_line : Place → (kind : List ℕ) → List ℕ
 source_line p kind = codes "source refused " ++ (decimal p.line ++ (codes ":" ++ (decimal p.column ++ (codes " " ++ (kind ++ codes "\n")))))
 
--- the first place of a text
-abbrev pub begin : Place
-begin = record { line = 1; column = 1 }
-
 -- a word of C99 that sources do without
 unfoldable pub left_out : (word : List ℕ) → List ℕ
 left_out word = codes "NotInProfile " ++ word
@@ -30,7 +26,6 @@ fault_word Limit = codes "Limit"
 fault_word Incomplete = codes "Incomplete"
 fault_word BadArity = codes "BadArity"
 
--- what isn't built yet has no place of its own
 abbrev pub refusal_line : Refusal → List ℕ
 refusal_line (refusal.BadByte p) = source_line p (codes "BadByte")
 refusal_line (refusal.BadNumber p) = source_line p (codes "BadNumber")
@@ -39,4 +34,3 @@ refusal_line (refusal.OpenText p) = source_line p (codes "OpenText")
 refusal_line (refusal.NotInProfile p word) = source_line p (left_out word)
 refusal_line (refusal.Expected p) = source_line p (codes "Expected")
 refusal_line (refusal.Fault f) = source_line f.place (fault_word f.kind)
-refusal_line refusal.Unbuilt = source_line begin (codes "Unbuilt")

@@ -1,6 +1,6 @@
 -- believed
 -- What the bytes of a source come to: its tree and its program, or the one thing for which it is refused. Stage by stage, with one constructor for each reason.
-use Rattle.std.specs.Prelude.{◌≡◌, ℕ, true, false, List, Option, Some, None, slice_get, Result, Ok, Err}
+use Rattle.std.specs.Prelude.{◌≡◌, ℕ, false, List, Option, Some, None, slice_get, Result, Ok, Err}
 use Rattle.mdr_core.specs.declared.place.Place.{Place}
 use Rattle.mdr_core.specs.declared.program.Program.{Program}
 use Rattle.mdr_core.specs.Sound.{HasFewNumbers}
@@ -22,7 +22,6 @@ use Rattle.mdr_program.specs.Programs.{typed}
 use Rattle.mdr_source.specs.declared.refusal.Refusal.{Refusal}
 use Rattle.mdr_source.specs.declared.refusal.Refusal.TheVariants as refusal
 use Rattle.mdr_source.specs.declared.outcome.Source.{Source}
-use Rattle.mdr_source.specs.Backs.{functions_call_back}
 
 -- the program of a tree, or all faults in it
 abbrev pub typed_tree : Tree → Checked Program
@@ -37,8 +36,7 @@ refused_as parse.OutOfMemory = None
 -- the types of a tree, judged. The program of one that is right has few types, globals, structs and functions: a larger one finds no memory
 pub data Judged (c : Checked Program) : Result Program Refusal → Type 0 where
   fault : (f : Fault) → IsFirst f c → Judged c (Err (refusal.Fault f))
-  back : (program : Program) → c ≡ Right program → functions_call_back program.funcs ≡ true → Judged c (Err refusal.Unbuilt)
-  right : (program : Program) → c ≡ Right program → functions_call_back program.funcs ≡ false → HasFewNumbers program → Judged c (Ok program)
+  right : (program : Program) → c ≡ Right program → HasFewNumbers program → Judged c (Ok program)
 
 -- a tree
 abbrev pub Means : Tree → Result Program Refusal → Type 0
@@ -67,7 +65,6 @@ pub record IsSource (bytes : List ℕ) (source : Source) : Type 0 where
   pub are_tokens : tokens_of bytes ≡ Ok tokens
   pub reads : Reads false tokens source.tree
   pub judged : typed_tree source.tree ≡ Right source.program
-  pub no_back : functions_call_back source.program.funcs ≡ false
   pub numbers : HasFewNumbers source.program
 
 -- the program of bytes would be right, and its types, globals, structs or functions aren't few
@@ -78,5 +75,4 @@ pub record IsTooLarge (bytes : List ℕ) : Type 0 where
   pub reads : Reads false tokens tree
   pub program : Program
   pub judged : typed_tree tree ≡ Right program
-  pub no_back : functions_call_back program.funcs ≡ false
   pub many : HasFewNumbers program → ⊥

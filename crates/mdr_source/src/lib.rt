@@ -1,7 +1,6 @@
 //! The bytes of a source: its tree and its program, or the one thing for which it is refused.
 #![tactic(auto)]
 
-mod backs;
 mod laws;
 mod lines;
 mod outcome;
@@ -9,7 +8,6 @@ mod put;
 mod refusal;
 mod whole;
 
-pub use backs::functions_call_back;
 pub use laws::{bytes_come_to_one_thing, bytes_come_to_something, bytes_come_to_their_source};
 pub use lines::refusal_line;
 pub use outcome::Source;

@@ -78,6 +78,5 @@ pub fn refusal_line(alloc: Global, refusal: &Refusal) -> Result<Vec<u8>, OutOfMe
         Refusal::NotInProfile(place, word) => left_out_line(alloc, *place, word),
         Refusal::Expected(place) => source_line(alloc, *place, "Expected"),
         Refusal::Fault(fault) => fault_line(alloc, fault.place, fault.kind),
-        Refusal::Unbuilt => source_line(alloc, Place { line: 1, column: 1 }, "Unbuilt"),
     }
 }

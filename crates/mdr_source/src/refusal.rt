@@ -28,7 +28,4 @@ pub enum Refusal {
     /// The first fault of types.
     #[error("wrong type")]
     Fault(Fault),
-    /// A form or a service that isn't built yet. It is told without its place.
-    #[error("not built yet")]
-    Unbuilt,
 }

@@ -1,6 +1,6 @@
 // The tree and the program of a source, or the one thing for which it is refused.
 
-ghost use Rattle.std.specs.Prelude.{◌≡◌, true, false, List, IfOk, MatchResult, Some, Err};
+ghost use Rattle.std.specs.Prelude.{◌≡◌, false, List, IfOk, MatchResult, Some, Err};
 ghost use Rattle.mdr_core.specs.declared.program.Program.{Program as AnyProgram};
 ghost use Rattle.mdr_syntax.specs.declared.token.Token.{Token as OneToken};
 ghost use Rattle.mdr_grammar.specs.Grammar.{Reads};
@@ -8,7 +8,6 @@ ghost use Rattle.mdr_faults.specs.Faults.{Checked, Right, IsFirst};
 ghost use Rattle.mdr_source.specs.declared.refusal.Refusal.TheVariants as refusal;
 ghost use Rattle.mdr_source.specs.Sources.{refused_as, Judged, Means, Reading, Comes};
 
-use crate::backs::functions_call_back;
 use crate::outcome::Source;
 use crate::refusal::Refusal;
 use mdr_body::Rule;
@@ -30,14 +29,10 @@ fn refused<T: Drop, A: Drop>(refusal: Refusal, _read: T) -> Result<A, Refusal>
     Err(refusal)
 }
 
-/// A program that perhaps calls back, and whose types, globals, structs and functions are few or not.
+/// A program whose types, globals, structs and functions are few. One that has more finds no memory.
 fn kept(program: Program) -> Result<Result<Program, Refusal>, OutOfMemory>
     ensures { IfOk result (Judged (Right program)) }
 {
-    let is_back = functions_call_back(program.funcs.as_slice());
-    if is_back {
-        return Ok(refused(Refusal::Unbuilt, program));
-    }
     match few(&program) {
         Ok(()) => Ok(Ok(program)),
         Err(error) => left_over(error, program),
@@ -98,8 +93,8 @@ fn of_tokens(alloc: Global, tokens: &[Token]) -> Result<Result<Source, Refusal>,
     }
 }
 
-/// The tree and the program of a source, or the one thing for which it is refused: of its tokens, of its grammar, the
-/// first fault of its types, or a service that isn't built.
+/// The tree and the program of a source, or the one thing for which it is refused: of its tokens, of its grammar, or the
+/// first fault of its types.
 pub fn source(alloc: Global, bytes: &[u8]) -> Result<Result<Source, Refusal>, OutOfMemory>
     ensures { IfOk result (Comes bytes.now) }
 {
