@@ -19,7 +19,6 @@ use Rattle.mdr_model.specs.Memory.{Memory, is_live, loaded, normal, stored}
 use Rattle.mdr_plain.specs.Running.{Before, Crossing, Setting, run}
 use Rattle.mdr_plain.specs.Storage.{accesses, births, deaths, fresh, next_serial, read, remembers, with_memory}
 use Rattle.mdr_plain.specs.World.{Ended, Ran, Stopped, Work, World, advanced, after, counted, given, then}
-use Rattle.mdr_plain.proofs.KeepLaws.{IsKept, births_keep, deaths_keep}
 use Rattle.mdr_holds.specs.Holding.{Holds}
 use Rattle.mdr_holds.specs.Laws.{GivesServed}
 use Rattle.mdr_holds.specs.Leaving.{AreObjects, Later, Leads, ended, stopped}
@@ -63,33 +62,19 @@ pub record EndsAround (program : Program) (uses : Uses) (side : Side) (serves : 
       → (v : Wire) (w' : World) → crosses at f args depth w ≡ Ended v w' → Reaches (Later program (next_serial w) K w) (λ K' x u. IsResult program K' func.result x) v w'
   pub tries : (K : Knowledge) (w : World) → K.uses ≡ uses → Holds program K w → (depth : ℕ) (x : Unit {0}) (w' : World) → before depth w ≡ Ended x w' → Reaches (Later program (next_serial w) K w) (λ K' y u. Unit {0}) x w'
 
--- a call of the other half, as a fair tree of a side makes it
-pub record IsCrossing (program : Program) (uses : Uses) (side : Side) (at : At) (f : ℕ) (args : List Wire) (depth : ℕ) : Type 0 where
-  pub known : Knowledge
-  pub uses_are : known.uses ≡ uses
-  pub func : Func
-  pub place : IsPlace side at
-  pub none : side.own f ≡ None
-  pub call : IsCall program known func at.func f args depth
-
--- what stands around code does the same as something else, where a fair tree asks with, and passes, what is current. What it is answered is current as well; and some property of states is kept
-pub record AreAliveAround (program : Program) (uses : Uses) (side : Side) (P : World → Type 0) (serves : Asked → World → Ran (List Wire)) (crosses : Crossing) (before : Before) (serves' : Asked → World → Ran (List Wire)) (crosses' : Crossing) (before' : Before) : Type 0 where
-  pub kept : IsKept P
-  pub serve : (K : Knowledge) (w : World) → K.uses ≡ uses → Holds program K w → P w → (a : Asked) → AreCurrent (is_live w.memory) a.args → serves a w ≡ serves' a w
-  pub cross : (K : Knowledge) (w : World) → K.uses ≡ uses → Holds program K w → P w → (at : At) (f : ℕ) (args : List Wire) (depth : ℕ) (func : Func) → IsPlace side at → side.own f ≡ None → IsCall program K func at.func f args depth → AreCurrent (is_live w.memory) args
+-- what stands around code does the same as something else, where a fair tree asks with, and passes, what is current. What it is answered is current as well
+pub record AreAliveAround (program : Program) (uses : Uses) (side : Side) (serves : Asked → World → Ran (List Wire)) (crosses : Crossing) (before : Before) (serves' : Asked → World → Ran (List Wire)) (crosses' : Crossing) (before' : Before) : Type 0 where
+  pub serve : (K : Knowledge) (w : World) → K.uses ≡ uses → Holds program K w → (a : Asked) → AreCurrent (is_live w.memory) a.args → serves a w ≡ serves' a w
+  pub cross : (K : Knowledge) (w : World) → K.uses ≡ uses → Holds program K w → (at : At) (f : ℕ) (args : List Wire) (depth : ℕ) (func : Func) → IsPlace side at → side.own f ≡ None → IsCall program K func at.func f args depth → AreCurrent (is_live w.memory) args
       → crosses at f args depth w ≡ crosses' at f args depth w
-  pub tries : (K : Knowledge) (w : World) → K.uses ≡ uses → Holds program K w → P w → (depth : ℕ) → before depth w ≡ before' depth w
+  pub tries : (K : Knowledge) (w : World) → K.uses ≡ uses → Holds program K w → (depth : ℕ) → before depth w ≡ before' depth w
   -- answers
   pub served : (a : Asked) (w : World) (rs : List Wire) (w' : World) → serves a w ≡ Ended rs w' → AreCurrent (is_live w'.memory) rs
   pub left : (a : Asked) (w : World) (rs : List Wire) (w' : World) → service_numbered a.service ≡ Some Leave → AreCurrent (is_live w.memory) a.args → serves a w ≡ Ended rs w' → is_live w'.memory ≡ without a.args (is_live w.memory)
-  pub result : (at : At) (f : ℕ) (args : List Wire) (depth : ℕ) → IsCrossing program uses side at f args depth → (w : World) (v : Wire) (w' : World) → crosses at f args depth w ≡ Ended v w' → IsCurrent (is_live w'.memory) v
-  -- the property
-  pub keeps_serve : (a : Asked) (w : World) (rs : List Wire) (w' : World) → P w → serves a w ≡ Ended rs w' → P w'
-  pub keeps_cross : (at : At) (f : ℕ) (args : List Wire) (depth : ℕ) → IsCrossing program uses side at f args depth → (w : World) (v : Wire) (w' : World) → P w → crosses at f args depth w ≡ Ended v w' → P w'
-  pub keeps_try : (depth : ℕ) (w : World) (x : Unit {0}) (w' : World) → P w → before depth w ≡ Ended x w' → P w'
+  pub result : (at : At) (f : ℕ) (args : List Wire) (depth : ℕ) (w : World) (v : Wire) (w' : World) → crosses at f args depth w ≡ Ended v w' → IsCurrent (is_live w'.memory) v
 
 module _ (program : Program) (sound : IsSound program) (uses : Uses) (serves : Asked → World → Ran (List Wire)) (crosses : Crossing) (before : Before) (side : Side) (around : EndsAround program uses side serves crosses before) (allowed : World → Cell → Bool)
-    (most : ℕ) (result : Ty) (from : ℕ) (P : World → Type 0) (serves' : Asked → World → Ran (List Wire)) (crosses' : Crossing) (before' : Before) (alive : AreAliveAround program uses side P serves crosses before serves' crosses' before') where
+    (most : ℕ) (result : Ty) (from : ℕ) (serves' : Asked → World → Ran (List Wire)) (crosses' : Crossing) (before' : Before) (alive : AreAliveAround program uses side serves crosses before serves' crosses' before') where
   abbrev here : Setting
   here = record { accesses = accesses program allowed; serves = serves; crosses = crosses }
 
@@ -105,24 +90,22 @@ module _ (program : Program) (sound : IsSound program) (uses : Uses) (serves : A
     uses_are : K.uses ≡ uses
     early : from ≤ next_serial w
     objects : AreObjects w.memory from live
-    property : P w
 
   known_lives : (K : Knowledge) (live : List Wire) (w : World) → Stands K live w → KnowsLives count (is_live w.memory) live
   known_lives K live w s = knows program K w s.holds from live s.objects
 
   -- it goes on with what ended no object
-  goes_on : (K K' : Knowledge) (live : List Wire) (w w' : World) → Stands K live w → Later program (next_serial w) K w K' w' → P w' → Stands K' live w'
-  goes_on K K' live w w' s l p = record {
+  goes_on : (K K' : Knowledge) (live : List Wire) (w w' : World) → Stands K live w → Later program (next_serial w) K w K' w' → Stands K' live w'
+  goes_on K K' live w w' s l = record {
     holds = l.holds;
     uses_are = l.grows.same ∙ s.uses_are;
     early = omega (arith, s.early, l.follows.later);
     objects = objects_stay w.memory w'.memory (λ n b e q. l.stays n b (s.holds.low n (live_born w.memory n b e)) e q) from live s.objects;
-    property = p;
   }
 
   -- and with what left these
-  goes_with : (K K' : Knowledge) (live live' : List Wire) (w w' : World) → Stands K live w → Later program from K w K' w' → AreObjects w'.memory from live' → P w' → Stands K' live' w'
-  goes_with K K' live live' w w' s l objects p = record { holds = l.holds; uses_are = l.grows.same ∙ s.uses_are; early = omega (arith, s.early, l.follows.later); objects = objects; property = p }
+  goes_with : (K K' : Knowledge) (live live' : List Wire) (w w' : World) → Stands K live w → Later program from K w K' w' → AreObjects w'.memory from live' → Stands K' live' w'
+  goes_with K K' live live' w w' s l objects = record { holds = l.holds; uses_are = l.grows.same ∙ s.uses_are; early = omega (arith, s.early, l.follows.later); objects = objects }
 
   -- ---- one thing after another
 
@@ -137,7 +120,7 @@ module _ (program : Program) (sound : IsSound program) (uses : Uses) (serves : A
   same_tick : (K : Knowledge) (live : List Wire) (w : World) → Stands K live w → (rest : ℕ) → w.clock.rest ≡ rest → (at : Option At) (go go' : World → Ran Wire) → ((w' : World) → Stands K live w' → go w' ≡ go' w') → counted rest at w go ≡ counted rest at w go'
   same_tick K live w s zero e at go go' each = refl
   same_tick K live w s (suc n) e at go go' each =
-      each (record w { clock = advanced 1 w.clock }) (goes_on K K live w (record w { clock = advanced 1 w.clock }) s (tick_later program (next_serial w) K w n s.holds e) (alive.kept.tick w s.property))
+      each (record w { clock = advanced 1 w.clock }) (goes_on K K live w (record w { clock = advanced 1 w.clock }) s (tick_later program (next_serial w) K w n s.holds e))
 
   same_given : {A : Type 0} (w : World) (r : Result A StopKind) (at : At) (go go' : A → Ran Wire) → ((x : A) → r ≡ Ok x → go x ≡ go' x) → given r at w go ≡ given r at w go'
   same_given w (Ok x) at go go' each = each x refl
@@ -145,7 +128,7 @@ module _ (program : Program) (sound : IsSound program) (uses : Uses) (serves : A
 
   same_store : (K : Knowledge) (live : List Wire) (w : World) → Stands K live w → (r : Result Memory StopKind) (at : At) (go go' : World → Ran Wire) → ((m : Memory) → r ≡ Ok m → Later program (next_serial w) K w K (with_memory w m))
       → ((m : Memory) → r ≡ Ok m → Stands K live (with_memory w m) → go (with_memory w m) ≡ go' (with_memory w m)) → given (remembers w r) at w go ≡ given (remembers w r) at w go'
-  same_store K live w s (Ok m) at go go' l each = each m refl (goes_on K K live w (with_memory w m) s (l m refl) (alive.kept.memory w m s.property))
+  same_store K live w s (Ok m) at go go' l each = each m refl (goes_on K K live w (with_memory w m) s (l m refl))
   same_store K live w s (Err kind) at go go' l each = refl
 
   -- ---- questions
@@ -204,9 +187,9 @@ module _ (program : Program) (sound : IsSound program) (uses : Uses) (serves : A
   tree_alive (Tree.Tick at d t) K live fair w s c =
       same_try (before d w) _ _
       (λ x w' e. let r = around.tries K w s.uses_are s.holds d x w' e in
-      let s' : Stands r.known live w' = goes_on K r.known live w w' s r.left (alive.keeps_try d w x w' s.property e) in
+      let s' : Stands r.known live w' = goes_on K r.known live w w' s r.left in
       same_tick r.known live w' s' w'.clock.rest refl (Some at) _ _ (λ w'' s''. tree_alive t r.known live (fair.3 r.known r.left.grows) w'' s'' (c (is_live w''.memory) (known_lives r.known live w'' s''))))
-      ∙ ap (λ (r : Work). then r (λ w'. counted w'.clock.rest (Some at) w' (λ w''. run_alive there before' t w''))) (alive.tries K w s.uses_are s.holds s.property d)
+      ∙ ap (λ (r : Work). then r (λ w'. counted w'.clock.rest (Some at) w' (λ w''. run_alive there before' t w''))) (alive.tries K w s.uses_are s.holds d)
   tree_alive (Tree.Load at p k) K live fair w s c =
       same_given w (loaded (allowed w) w.memory p) at _ _
       (λ v e. tree_alive (k v) K live (fair.1.3 v (loaded_fits program sound K w s.holds (allowed w) fair.1.0 p v fair.1.1 fair.1.2 e)) w s (c v (loaded_current program K w.memory s.holds.memory (allowed w) p v e)))
@@ -221,35 +204,34 @@ module _ (program : Program) (sound : IsSound program) (uses : Uses) (serves : A
   tree_alive (Tree.Birth at shapes k) K live fair w s c =
       let all : AreJoined program from live shapes K w = objects_born program sound from live shapes fair.1 K w s.early s.holds s.objects in
       let there_now : Stands all.known (live ++ (births program Auto shapes w).pointers) (births program Auto shapes w).memory =
-      goes_with K all.known live (live ++ (births program Auto shapes w).pointers) w (births program Auto shapes w).memory s all.later all.objects (births_keep P alive.kept program Auto shapes w s.property) in
+      goes_with K all.known live (live ++ (births program Auto shapes w).pointers) w (births program Auto shapes w).memory s all.later all.objects in
       tree_alive (k (births program Auto shapes w).pointers) all.known (live ++ (births program Auto shapes w).pointers) (fair.2 all.known all.later.grows (births program Auto shapes w).pointers all.born) (births program Auto shapes w).memory there_now
       (c (is_live (births program Auto shapes w).memory.memory) (births program Auto shapes w).pointers (births_many program Auto shapes w) (known_lives all.known (live ++ (births program Auto shapes w).pointers) (births program Auto shapes w).memory there_now))
   tree_alive (Tree.Death at ps t) K live fair w s c =
       let all : AreDead program from fair.2.0 ps K w = objects_died program sound from fair.2.0 ps K w s.holds (subst (AreObjects w.memory from) fair.2.1 s.objects) in
-      tree_alive t K fair.2.0 fair.2.2 (deaths ps w) (goes_with K K live fair.2.0 w (deaths ps w) s all.later all.objects (deaths_keep P alive.kept ps w s.property))
+      tree_alive t K fair.2.0 fair.2.2 (deaths ps w) (goes_with K K live fair.2.0 w (deaths ps w) s all.later all.objects)
       (subst (λ (lives : Lives). Current count lives fair.2.0 t) (sym (deaths_live ps w)) (c.1 fair.2.0 fair.2.1))
   tree_alive (Tree.Ask a k) K live fair w s c =
       let now : AsksCurrent count (is_live w.memory) live a (Some fair.1.0) (λ lives' own' rs. Current count lives' own' (k rs)) = subst (λ o. AsksCurrent count (is_live w.memory) live a o (λ lives' own' rs. Current count lives' own' (k rs))) fair.1.1 c in
       same_after (serves a w) _ _
       (λ rs w' e. let r = around.serve K w s.uses_are s.holds from live fair.1.3.0 a fair.1.0 s.early s.objects fair.1.1 fair.1.2 fair.1.3.1 rs w' e in
-      let s' : Stands r.known (behind fair.1.0 fair.1.3.0 rs) w' = goes_with K r.known live (behind fair.1.0 fair.1.3.0 rs) w w' s r.left r.gives.objects (alive.keeps_serve a w rs w' s.property e) in
+      let s' : Stands r.known (behind fair.1.0 fair.1.3.0 rs) w' = goes_with K r.known live (behind fair.1.0 fair.1.3.0 rs) w w' s r.left r.gives.objects in
       tree_alive (k rs) r.known (behind fair.1.0 fair.1.3.0 rs) (fair.1.3.2 r.known r.left.grows rs r.gives.served) w' s'
       (answered K r.known live w w' a (λ lives' own' qs. Current count lives' own' (k qs)) rs e fair.1.0 fair.1.3.0 fair.1.1 fair.1.3.1 r.gives.served s' now))
       ∙ ap (λ (r : Ran (List Wire)). after r (λ rs w'. run_alive there before' (k rs) w'))
-      (alive.serve K w s.uses_are s.holds s.property a (asked_current K live (is_live w.memory) a fair.1.0 (λ lives' own' rs. Current count lives' own' (k rs)) fair.1.2 now))
+      (alive.serve K w s.uses_are s.holds a (asked_current K live (is_live w.memory) a fair.1.0 (λ lives' own' rs. Current count lives' own' (k rs)) fair.1.2 now))
   tree_alive (Tree.Cross at f args d k) K live fair w s c =
       same_after (crosses at f args d w) _ _
-      (λ v w' e. let crossing : IsCrossing program uses side at f args d = record { known = K; uses_are = s.uses_are; func = fair.2.0; place = fair.0; none = fair.1; call = fair.2.1 } in
-      let r = around.cross K w s.uses_are s.holds at f args d fair.2.0 fair.0 fair.1 fair.2.1 v w' e in
-      let s' : Stands r.known live w' = goes_on K r.known live w w' s r.left (alive.keeps_cross at f args d crossing w v w' s.property e) in
-      tree_alive (k v) r.known live (fair.2.2 r.known r.left.grows v r.gives) w' s' (c.1 (is_live w'.memory) v (known_lives r.known live w' s') (alive.result at f args d crossing w v w' e)))
-      ∙ ap (λ (r : Ran Wire). after r (λ v w'. run_alive there before' (k v) w')) (alive.cross K w s.uses_are s.holds s.property at f args d fair.2.0 fair.0 fair.1 fair.2.1 c.0)
+      (λ v w' e. let r = around.cross K w s.uses_are s.holds at f args d fair.2.0 fair.0 fair.1 fair.2.1 v w' e in
+      let s' : Stands r.known live w' = goes_on K r.known live w w' s r.left in
+      tree_alive (k v) r.known live (fair.2.2 r.known r.left.grows v r.gives) w' s' (c.1 (is_live w'.memory) v (known_lives r.known live w' s') (alive.result at f args d w v w' e)))
+      ∙ ap (λ (r : Ran Wire). after r (λ v w'. run_alive there before' (k v) w')) (alive.cross K w s.uses_are s.holds at f args d fair.2.0 fair.0 fair.1 fair.2.1 c.0)
 
 -- running code of a fair tree whose values are current
 pub code_alive : (program : Program) → IsSound program → (uses : Uses) (serves : Asked → World → Ran (List Wire)) (crosses : Crossing) (before : Before) (side : Side) → EndsAround program uses side serves crosses before → (allowed : World → Cell → Bool)
-    → (most : ℕ) (result : Ty) (P : World → Type 0) (serves' : Asked → World → Ran (List Wire)) (crosses' : Crossing) (before' : Before) → AreAliveAround program uses side P serves crosses before serves' crosses' before'
-    → (K : Knowledge) (w : World) (t : Tree) → K.uses ≡ uses → Holds program K w → P w → FairTo most program side result K [] t → Current (length program.globals) (is_live w.memory) [] t
+    → (most : ℕ) (result : Ty) (serves' : Asked → World → Ran (List Wire)) (crosses' : Crossing) (before' : Before) → AreAliveAround program uses side serves crosses before serves' crosses' before'
+    → (K : Knowledge) (w : World) (t : Tree) → K.uses ≡ uses → Holds program K w → FairTo most program side result K [] t → Current (length program.globals) (is_live w.memory) [] t
     → run (record { accesses = accesses program allowed; serves = serves; crosses = crosses }) before t w ≡ run_alive (record { accesses = accesses program allowed; serves = serves'; crosses = crosses' }) before' t w
-code_alive program sound uses serves crosses before side around allowed most result P serves' crosses' before' alive K w t same h p fair current =
-    tree_alive program sound uses serves crosses before side around allowed most result (next_serial w) P serves' crosses' before' alive t K [] fair w
-    (record { holds = h; uses_are = same; early = omega arith; objects = tt; property = p }) current
+code_alive program sound uses serves crosses before side around allowed most result serves' crosses' before' alive K w t same h fair current =
+    tree_alive program sound uses serves crosses before side around allowed most result (next_serial w) serves' crosses' before' alive t K [] fair w
+    (record { holds = h; uses_are = same; early = omega arith; objects = tt }) current

@@ -30,8 +30,7 @@ use Rattle.mdr_plain.specs.Locks.{acquire, release}
 use Rattle.mdr_plain.specs.Running.{Before, Setting, run}
 use Rattle.mdr_plain.specs.Services.{Served, allocated, as_now, as_served, fails_now, freed, freed_by, gives, is_no_block, requested, served, served_by, when_changed}
 use Rattle.mdr_plain.specs.Storage.{births, born, deaths, new_of, next_serial}
-use Rattle.mdr_plain.specs.World.{Ended, Ran, Stopped, Work, World, after, counted, given, left, then}
-use Rattle.mdr_plain.proofs.KeepLaws.{IsKept, served_keeps}
+use Rattle.mdr_plain.specs.World.{Ended, Ran, Stopped, Work, World, after, counted, given, then}
 use Rattle.mdr_holds.specs.Holding.{first_knowledge}
 use Rattle.mdr_kept.specs.Current.{AreCurrent, IsCurrent, Lives, without}
 use Rattle.mdr_kept.proofs.EvenLaws.{all_alive}
@@ -135,14 +134,6 @@ unfolding served
 served_left program a w names h =
     subst (λ o. LeavesWithout a.args w (served_by program (as_now w a) o w)) (sym names)
     (subst (λ (ps : List Wire). is_live (deaths ps w).memory ≡ without a.args (is_live w.memory)) (sym (all_alive w.memory a.args (none_gone w.memory a.args h))) (deaths_live a.args w))
-
--- ---- a property that services keep
-
-same_left : {A : Type 0} (P : World → Type 0) (r : Ran A) (x : A) (w : World) → P (left r) → r ≡ Ended x w → P w
-same_left P r x w h e = subst (λ (q : Ran _). P (left q)) e h
-
-pub served_keep : (P : World → Type 0) → IsKept P → (program : Program) (a : Asked) (w : World) (rs : List Wire) (w' : World) → P w → served program a w ≡ Ended rs w' → P w'
-served_keep P kept program a w rs w' h e = same_left P (served program a w) rs w' (served_keeps P kept program a w h).at_end e
 
 -- ---- code
 

@@ -14,6 +14,7 @@ use Rattle.mdr_model.specs.declared.command.Command.TheVariants as command
 use Rattle.mdr_model.specs.declared.memory.Cell.{Cell}
 use Rattle.mdr_model.specs.declared.outcome.End.TheVariants as ends
 use Rattle.mdr_model.specs.Memory.{Memory, normal}
+use Rattle.mdr_plain.specs.Atomic.{is_atomic}
 use Rattle.mdr_plain.specs.Gate.{are_none, due}
 use Rattle.mdr_plain.specs.Running.{Before, Crossing, Setting, all_cells, call, handled, interrupted, interrupts, nothing, run}
 use Rattle.mdr_plain.specs.Scripts.{Finish, and_then, begin, begun, called_by, commands, idle, in_place, returned}
@@ -24,10 +25,10 @@ use Rattle.mdr_bound.specs.declared.bound.Bound.{Bound}
 use Rattle.mdr_watched.specs.Driver.{Driver, driver_of, is_user}
 use Rattle.mdr_watched.specs.Kept.{due_plainly, followed_of, free, meets_none, meets_user, unless_due}
 use Rattle.mdr_watched.specs.Views.{may_touch, taken}
-use Rattle.mdr_watched.specs.Watched.{Tries, backs, closing, does_with, downcall, entered as entered_by, held, kernel_of, kernel_with, may_not, serves, upcall as upcall_by, watched_of}
+use Rattle.mdr_watched.specs.Watched.{Tries, backs, calls_back, closing, does as does_by, downcall, entered as entered_by, held, kernel_of, kernel_with, may_not, serves, upcall as upcall_by, watched_of}
 use Rattle.mdr_watched.proofs.WaitLaws.{none_due}
 use Rattle.mdr_kept.specs.Laws.{StrictRunsAreFollowed}
-use Rattle.mdr_kept.specs.Strict.{asks, call_alone, called, does, entered, goes_down, handled_alone, is_any_gone, is_gone, now, run_alive, strict_of, tries, unless, upcall}
+use Rattle.mdr_kept.specs.Strict.{asks, call_alive, called, does, entered, goes_down, goes_up, handled_alive, is_any_gone, is_gone, now, run_alive, strict_of, tries, unless, upcall, ups}
 use Rattle.mdr_kept.proofs.EvenLaws.{normal_alive}
 
 -- ---- work that ends alike
@@ -105,21 +106,27 @@ module _ (a : Accesses World) (asked asked' : Asked → World → Ran (List Wire
   runs_lead (Tree.Ask q k) w = leads_after _ _ _ _ (asks_lead q w) (λ results w'. runs_lead (k results) w')
   runs_lead (Tree.Cross at f args d k) w = leads_after _ _ _ _ (crossed at f args d w) (λ v w'. runs_lead (k v) w')
 
+leads_chosen : {A : Type 0} (b : Bool) (x y y' : Ran A) → Leads y y' → Leads (chosen b x y) (chosen b x y')
+leads_chosen true x y y' h = same x
+leads_chosen false x y y' h = h
+
+-- where calls of the user half lead alike
+abbrev CrossesLead : Crossing → Crossing → Type 0
+CrossesLead crosses crosses' = (at : At) (f : ℕ) (args : List Wire) (depth : ℕ) (w : World) → Leads (crosses at f args depth w) (crosses' at f args depth w)
+
 module _ (d : Driver) where
   -- ---- the kernel half
 
-  -- whatever a call of the other half does: here the run ends at one
-  calls_lead : (crosses : Crossing) (before before' : Before) → ((n : ℕ) (w : World) → Leads (before n w) (before' n w)) → (f : ℕ) (args : List Wire) (depth : ℕ) (w : World)
-      → Leads (call_alone d before f args depth w) (call (kernel_with d crosses) before' f args depth w)
+  calls_lead : (crosses crosses' : Crossing) → CrossesLead crosses crosses' → (before before' : Before) → ((n : ℕ) (w : World) → Leads (before n w) (before' n w)) → (f : ℕ) (args : List Wire) (depth : ℕ) (w : World)
+      → Leads (call_alive d crosses before f args depth w) (call (kernel_with d crosses') before' f args depth w)
   unfolding call
-  calls_lead crosses before before' tried f args depth w =
-      runs_lead (accesses d.program all_cells) (served d.program) (served d.program) may_not crosses before before' tried (λ q w'. same _) (λ at g vs n w'. never_ends _ _ w' _) _ w
+  calls_lead crosses crosses' crossed before before' tried f args depth w = runs_lead (accesses d.program all_cells) (served d.program) (served d.program) crosses crosses' before before' tried (λ q w'. same _) crossed _ w
 
-  handled_leads : (n : ℕ) (o : Option ℕ) (w : World) → Leads (handled_alone d n o w) (handled (kernel_of d) n o w)
+  handled_leads : (n : ℕ) (o : Option ℕ) (w : World) → Leads (handled_alive d n o w) (handled (kernel_of d) n o w)
   handled_leads n None w = same _
-  handled_leads n (Some f) w = leads_after _ _ _ _ (calls_lead may_not nothing nothing (λ n' w'. same _) f [] n (interrupted f w)) (λ v w'. same _)
+  handled_leads n (Some f) w = leads_after _ _ _ _ (calls_lead may_not may_not (λ at g vs n' w'. same _) nothing nothing (λ n' w'. same _) f [] n (interrupted f w)) (λ v w'. same _)
 
-  interrupts_lead : (n : ℕ) (w : World) → Leads (handled_alone d n (due w) w) (interrupts (kernel_of d) n w)
+  interrupts_lead : (n : ℕ) (w : World) → Leads (handled_alive d n (due w) w) (interrupts (kernel_of d) n w)
   unfolding interrupts
   interrupts_lead n w = handled_leads n (due w) w
 
@@ -135,54 +142,60 @@ module _ (d : Driver) where
   tries_lead : (n : ℕ) (w : World) → Leads (tries d n w) (interrupts (kernel_of d) n w)
   tries_lead n w = of (are_none w.views) refl
     where
-      of : (t : Bool) → are_none w.views ≡ t → Leads (chosen t (handled_alone d n (due w) w) (unless_due (due_plainly w) w)) (interrupts (kernel_of d) n w)
+      of : (t : Bool) → are_none w.views ≡ t → Leads (chosen t (handled_alive d n (due w) w) (unless_due (due_plainly w) w)) (interrupts (kernel_of d) n w)
       of true e = interrupts_lead n w
       of false e = subst (λ q. Leads (unless_due (due_plainly w) w) q) (sym (waited n w e)) (unless_leads (due_plainly w) w)
 
   tries_lead_freely : (n : ℕ) (w : World) → Leads (tries d n w) (meets_none (kernel_of d) n w)
   tries_lead_freely n w = of (are_none w.views)
     where
-      of : (t : Bool) → Leads (chosen t (handled_alone d n (due w) w) (unless_due (due_plainly w) w)) (chosen t (interrupts (kernel_of d) n w) (unless_due (due_plainly w) w))
+      of : (t : Bool) → Leads (chosen t (handled_alive d n (due w) w) (unless_due (due_plainly w) w)) (chosen t (interrupts (kernel_of d) n w) (unless_due (due_plainly w) w))
       of true = interrupts_lead n w
       of false = same _
 
-  -- ---- upcalls and commands
+  -- ---- upcalls, calls back and commands
 
-  module _ (by : Tries) (crosses : Crossing) (kernel_tried : (n : ℕ) (w : World) → Leads (tries d n w) (by.kernel n w)) (user_tried : (n : ℕ) (w : World) → Leads (meets_user n w) (by.user n w)) where
+  module _ (by : Tries) (kernel_tried : (n : ℕ) (w : World) → Leads (tries d n w) (by.kernel n w)) (user_tried : (n : ℕ) (w : World) → Leads (meets_user n w) (by.user n w)) where
     asks_lead : (t : ℕ) (q : Asked) (w : World) → Leads (asks d t q w) (serves d by t q w)
     asks_lead t q w = leads_unless (is_any_gone w.memory q.args) (Some q.at) w _ _ (same _)
 
-    downs_lead : (t : ℕ) (at : At) (f : ℕ) (args : List Wire) (depth : ℕ) (w : World) → Leads (goes_down d t at f args depth w) (downcall d by t crosses at f args depth w)
-    downs_lead t at f args depth w =
-        leads_unless (is_any_gone w.memory args) (Some at) w _ _ (leads_after _ _ _ _ (calls_lead crosses (tries d) by.kernel kernel_tried f (now w args) depth w) (λ v w'. same _))
+    downs_lead : (crosses crosses' : Crossing) → CrossesLead crosses crosses' → (t : ℕ) → CrossesLead (goes_down d t crosses) (downcall d by t crosses')
+    downs_lead crosses crosses' crossed t at f args depth w =
+        leads_unless (is_any_gone w.memory args) (Some at) w _ _ (leads_after _ _ _ _ (calls_lead crosses crosses' crossed (tries d) by.kernel kernel_tried f (now w args) depth w) (λ v w'. same _))
 
-    entered_leads : (f : ℕ) (args : List Wire) (set : List Cell) (w : World) → Leads (entered d f args set w) (entered_by d by crosses f args 0 set w)
-    entered_leads f args set w = leads_closing _ _
-        (runs_lead (accesses d.program may_touch) (asks d f) (serves d by f) (goes_down d f) (downcall d by f crosses) meets_user by.user user_tried (asks_lead f) (downs_lead f) _ _)
+    entered_leads : (crosses crosses' : Crossing) → CrossesLead crosses crosses' → (f : ℕ) (args : List Wire) (depth : ℕ) (set : List Cell) (w : World) → Leads (entered d crosses f args depth set w) (entered_by d by crosses' f args depth set w)
+    entered_leads crosses crosses' crossed f args depth set w = leads_closing _ _
+        (runs_lead (accesses d.program may_touch) (asks d f) (serves d by f) (goes_down d f crosses) (downcall d by f crosses') meets_user by.user user_tried (asks_lead f) (downs_lead crosses crosses' crossed f) _ _)
 
-    upcalls_lead : (f : ℕ) (args : List Wire) (w : World) → Leads (upcall d f args w) (upcall_by d by crosses f args 0 w)
+    upcalls_lead : (crosses crosses' : Crossing) → CrossesLead crosses crosses' → (f : ℕ) (args : List Wire) (depth : ℕ) (w : World) → Leads (upcall d crosses f args depth w) (upcall_by d by crosses' f args depth w)
     unfolding upcall_by
-    upcalls_lead f args w = leads_taken _ _ w _ _ (λ set. entered_leads f args set w)
+    upcalls_lead crosses crosses' crossed f args depth w = leads_taken _ _ w _ _ (λ set. entered_leads crosses crosses' crossed f args depth set w)
+
+    ups_lead : (room : ℕ) → CrossesLead (goes_up d room) (calls_back d by room)
+    unfolding goes_up calls_back
+    ups_lead zero at f args depth w = same _
+    ups_lead (suc room) at f args depth w =
+        leads_chosen (is_atomic w) _ _ _ (leads_unless (is_any_gone w.memory args) (Some at) w _ _ (upcalls_lead (goes_up d room) (calls_back d by room) (ups_lead room) f (now w args) depth w))
 
     returned_leads : (r s : Ran Wire) → Leads r s → Leads (returned (tries d) r) (returned (interrupts (kernel_of d)) s)
     returned_leads r s h = leads_after r s _ _ h (λ v w. tries_lead 0 _)
 
     abbrev enters : ℕ → List Wire → World → Ran Wire
-    enters f args w = call (kernel_with d crosses) by.kernel f args 0 w
+    enters f args w = call (kernel_with d (backs d by)) by.kernel f args 0 w
 
     abbrev opens : ℕ → List Wire → World → Ran Wire
-    opens f args w = upcall_by d by crosses f args 0 w
+    opens f args w = upcall_by d by (backs d by) f args 0 w
 
     called_leads : (b : Bool) (f : ℕ) (args : List Wire) (w : World) → Leads (returned (tries d) (called d b f args w)) (in_place (kernel_of d) enters opens (called_by b (kernel_of d) f args w))
-    called_leads true f args w = returned_leads _ _ (upcalls_lead f args w)
-    called_leads false f args w = returned_leads _ _ (calls_lead crosses (tries d) by.kernel kernel_tried f args 0 w)
+    called_leads true f args w = returned_leads _ _ (upcalls_lead (ups d) (backs d by) (ups_lead 256) f args 0 w)
+    called_leads false f args w = returned_leads _ _ (calls_lead (ups d) (backs d by) (ups_lead 256) (tries d) by.kernel kernel_tried f args 0 w)
 
     idle_leads : (n : ℕ) (w : World) → Leads (idle (tries d) n w) (idle (interrupts (kernel_of d)) n w)
     unfolding idle
     idle_leads zero w = same _
     idle_leads (suc n) w = leads_then _ _ _ _ (tries_lead 0 w) (λ w'. leads_counted w'.clock.rest None w' _ _ (λ w''. idle_leads n w''))
 
-    does_leads : (c : Command) (w : World) → Leads (does d c w) (does_with d by crosses c w)
+    does_leads : (c : Command) (w : World) → Leads (does d c w) (does_by d by c w)
     unfolding begin
     does_leads (command.Call f args) w = called_leads (is_user d.plan f) f (map wire_of args) (begun d.program f args w)
     does_leads (command.Idle n) w = leads_then _ _ _ _ (idle_leads n _) (λ w'. tries_lead 0 w')
@@ -197,18 +210,18 @@ module _ (d : Driver) where
     and_thens_agree (Ended x w) s go go' h later e = ap (λ q. and_then q go') (h.by x w refl) ∙ later w e
     and_thens_agree (Stopped kind at w) s go go' h later e = not_ok kind at e
 
-    commands_agree : (cs : List Command) (w : World) → (commands (does d) cs w).end ≡ ends.Ok → commands (does_with d by crosses) cs w ≡ commands (does d) cs w
+    commands_agree : (cs : List Command) (w : World) → (commands (does d) cs w).end ≡ ends.Ok → commands (does_by d by) cs w ≡ commands (does d) cs w
     unfolding commands
     commands_agree [] w e = refl
     commands_agree (c ∷ cs) w e = and_thens_agree _ _ _ _ (does_leads c w) (λ w' e'. commands_agree cs w' e') e
 
 followed_is_strict : (d : Driver) (script : Bound) (budget : ℕ) → (strict_of d script budget).end ≡ ends.Ok → followed_of d script budget ≡ strict_of d script budget
 unfolding strict_of followed_of
-followed_is_strict d script budget e = commands_agree d (free d) (backs d (free d)) (tries_lead_freely d) (λ n w. same _) script.commands _ e
+followed_is_strict d script budget e = commands_agree d (free d) (tries_lead_freely d) (λ n w. same _) script.commands _ e
 
 watched_is_strict : (d : Driver) (script : Bound) (budget : ℕ) → (strict_of d script budget).end ≡ ends.Ok → watched_of d script budget ≡ strict_of d script budget
 unfolding strict_of watched_of
-watched_is_strict d script budget e = commands_agree d (held d) (backs d (held d)) (tries_lead d) (λ n w. unless_leads d (due_plainly w) w) script.commands _ e
+watched_is_strict d script budget e = commands_agree d (held d) (tries_lead d) (λ n w. unless_leads d (due_plainly w) w) script.commands _ e
 
 pub strict_runs_are_followed : StrictRunsAreFollowed
 strict_runs_are_followed = record {

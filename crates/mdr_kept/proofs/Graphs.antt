@@ -1,4 +1,4 @@
--- Each program has a call graph, in which a call by `kcall` doesn't count.
+-- Each program has a call graph, in which a call by `kcall` counts or not.
 use Rattle.std.proofs.Common.{◌≡◌, ◌↔◌, ◌⊎◌, inl, inr, ℕ, zero, suc, ◌<◌, ◌≤◌, Bool, true, false, ◌&&◌, ◌||◌, ◌==◌, List, [], ◌∷◌, map, length, get_or, Option, Some, None, slice_get, refl, sym, ap, ◌∙◌, subst, arith}
 use Rattle.std.specs.List.{filter, range_with_len}
 use Rattle.std.proofs.lemmas.Bool.{and_from, and_parts, both_ways, eq-eqb, eqb-true, or_cases, or_left, or_right}
@@ -17,7 +17,7 @@ use Rattle.mdr_paths.specs.Paths.{is_in}
 use Rattle.mdr_paths.proofs.MarkLaws.{from_range, in_range, range_rises}
 use Rattle.mdr_paths.proofs.NodeLists.{is_in-filter, rises-filter}
 use Rattle.mdr_slice.specs.Calls.{all_calls, body_code, names_of}
-use Rattle.mdr_slice.specs.Graph.{AreCallees, IsRow, MayCall, MayPointTo, OneReaches, reaches_by}
+use Rattle.mdr_slice.specs.Graph.{AreCallees, IsRow, KernelCallReaches, MayCall, MayPointTo, OneReaches, reaches_by}
 use Rattle.mdr_slice.specs.Pointed.{called_type}
 
 -- ---- pointers
@@ -53,55 +53,68 @@ points_right program slots e g = (
 
 -- ---- calls
 
-abbrev reaches : Program → List Slot → Called → List Term → ℕ → Bool
-reaches program slots (Called.Direct f) args g = f == g
-reaches program slots (Called.Through e) args g = points program slots e g
-reaches program slots (Called.Service n) args g = false
+abbrev kernel_reaches : Program → List Slot → ℕ → List Term → ℕ → Bool
+kernel_reaches program slots n [] g = false
+kernel_reaches program slots n (e ∷ es) g = n == 15 && points program slots e g
 
-reaches_right : (program : Program) (slots : List Slot) (callee : Called) (args : List Term) (g : ℕ) → (reaches program slots callee args g ≡ true) ↔ reaches_by program slots false callee args g
-reaches_right program slots (Called.Direct f) args g = (λ h. eqb-true f g h, λ e. eq-eqb f g e)
-reaches_right program slots (Called.Through e) args g = points_right program slots e g
-reaches_right program slots (Called.Service n) args g = (λ h. absurd (both_ways false refl h), λ e. absurd e)
+kernel_right : (program : Program) (slots : List Slot) (n : ℕ) (args : List Term) (g : ℕ) → (kernel_reaches program slots n args g ≡ true) ↔ KernelCallReaches program slots n args g
+kernel_right program slots n [] g = (λ h. absurd (both_ways false refl h), λ e. absurd e)
+kernel_right program slots n (e ∷ es) g = (
+  λ h. let parts = and_parts (n == 15) (points program slots e g) h in (eqb-true n 15 parts.0, (points_right program slots e g).0 parts.1),
+  λ k. and_from _ _ (eq-eqb n 15 k.0) ((points_right program slots e g).1 k.1),
+)
 
-abbrev any_call : Program → List Slot → List CallOf → ℕ → Bool
-any_call program slots [] g = false
-any_call program slots (c ∷ cs) g = reaches program slots c.callee c.args g || any_call program slots cs g
+abbrev reaches : Program → List Slot → (kernel_calls : Bool) → Called → List Term → ℕ → Bool
+reaches program slots counts (Called.Direct f) args g = f == g
+reaches program slots counts (Called.Through e) args g = points program slots e g
+reaches program slots true (Called.Service n) args g = kernel_reaches program slots n args g
+reaches program slots false (Called.Service n) args g = false
 
-any_from : (program : Program) (slots : List Slot) (cs : List CallOf) (g : ℕ) → any_call program slots cs g ≡ true → OneReaches program slots false cs g
-any_from program slots [] g h = absurd (both_ways false refl h)
-any_from program slots (c ∷ cs) g h = of (or_cases _ _ h) (any_from program slots cs g)
+reaches_right : (program : Program) (slots : List Slot) (counts : Bool) (callee : Called) (args : List Term) (g : ℕ) → (reaches program slots counts callee args g ≡ true) ↔ reaches_by program slots counts callee args g
+reaches_right program slots counts (Called.Direct f) args g = (λ h. eqb-true f g h, λ e. eq-eqb f g e)
+reaches_right program slots counts (Called.Through e) args g = points_right program slots e g
+reaches_right program slots true (Called.Service n) args g = kernel_right program slots n args g
+reaches_right program slots false (Called.Service n) args g = (λ h. absurd (both_ways false refl h), λ e. absurd e)
+
+abbrev any_call : Program → List Slot → (kernel_calls : Bool) → List CallOf → ℕ → Bool
+any_call program slots counts [] g = false
+any_call program slots counts (c ∷ cs) g = reaches program slots counts c.callee c.args g || any_call program slots counts cs g
+
+any_from : (program : Program) (slots : List Slot) (counts : Bool) (cs : List CallOf) (g : ℕ) → any_call program slots counts cs g ≡ true → OneReaches program slots counts cs g
+any_from program slots counts [] g h = absurd (both_ways false refl h)
+any_from program slots counts (c ∷ cs) g h = of (or_cases _ _ h) (any_from program slots counts cs g)
   where
-    of : (reaches program slots c.callee c.args g ≡ true) ⊎ (any_call program slots cs g ≡ true) → (any_call program slots cs g ≡ true → OneReaches program slots false cs g) → OneReaches program slots false (c ∷ cs) g
-    of (inl e) later = record { at = 0; call = c; is = refl; leads = (reaches_right program slots c.callee c.args g).0 e }
+    of : (reaches program slots counts c.callee c.args g ≡ true) ⊎ (any_call program slots counts cs g ≡ true) → (any_call program slots counts cs g ≡ true → OneReaches program slots counts cs g) → OneReaches program slots counts (c ∷ cs) g
+    of (inl e) later = record { at = 0; call = c; is = refl; leads = (reaches_right program slots counts c.callee c.args g).0 e }
     of (inr e) later = let one = later e in record { at = suc one.at; call = one.call; is = one.is; leads = one.leads }
 
-any_to : (program : Program) (slots : List Slot) (cs : List CallOf) (g i : ℕ) (call : CallOf) → slice_get cs i ≡ Some call → reaches_by program slots false call.callee call.args g → any_call program slots cs g ≡ true
-any_to program slots [] g i call e leads = absurd cc
-any_to program slots (c ∷ cs) g zero call e leads = or_left _ _ ((reaches_right program slots c.callee c.args g).1 (subst (λ (x : CallOf). reaches_by program slots false x.callee x.args g) (sym (some_same e)) leads))
-any_to program slots (c ∷ cs) g (suc i) call e leads = or_right _ _ (any_to program slots cs g i call e leads)
+any_to : (program : Program) (slots : List Slot) (counts : Bool) (cs : List CallOf) (g i : ℕ) (call : CallOf) → slice_get cs i ≡ Some call → reaches_by program slots counts call.callee call.args g → any_call program slots counts cs g ≡ true
+any_to program slots counts [] g i call e leads = absurd cc
+any_to program slots counts (c ∷ cs) g zero call e leads = or_left _ _ ((reaches_right program slots counts c.callee c.args g).1 (subst (λ (x : CallOf). reaches_by program slots counts x.callee x.args g) (sym (some_same e)) leads))
+any_to program slots counts (c ∷ cs) g (suc i) call e leads = or_right _ _ (any_to program slots counts cs g i call e leads)
 
 -- ---- rows
 
-abbrev may_by : Program → Option Func → ℕ → Bool
-may_by program None g = false
-may_by program (Some func) g = any_call program (slots_of func) (all_calls (body_code func.body)) g
+abbrev may_by : Program → (kernel_calls : Bool) → Option Func → ℕ → Bool
+may_by program counts None g = false
+may_by program counts (Some func) g = any_call program (slots_of func) counts (all_calls (body_code func.body)) g
 
-abbrev row : Program → ℕ → List ℕ
-row program f = filter (may_by program (slice_get program.funcs f)) (range_with_len 0 (length program.funcs))
+abbrev row : Program → (kernel_calls : Bool) → ℕ → List ℕ
+row program counts f = filter (may_by program counts (slice_get program.funcs f)) (range_with_len 0 (length program.funcs))
 
-row_is : (program : Program) (f : ℕ) (func : Func) → slice_get program.funcs f ≡ Some func → IsRow program false f (row program f)
-row_is program f func names = record {
-  rises = rises-filter numbers (may_by program (slice_get program.funcs f)) (range_with_len 0 (length program.funcs)) (range_rises 0 (length program.funcs));
+row_is : (program : Program) (counts : Bool) (f : ℕ) (func : Func) → slice_get program.funcs f ≡ Some func → IsRow program counts f (row program counts f)
+row_is program counts f func names = record {
+  rises = rises-filter numbers (may_by program counts (slice_get program.funcs f)) (range_with_len 0 (length program.funcs)) (range_rises 0 (length program.funcs));
   exact = λ g. (to g, from g);
 }
   where
     test : ℕ → Bool
-    test g = may_by program (slice_get program.funcs f) g
+    test g = may_by program counts (slice_get program.funcs f) g
 
-    same : (g : ℕ) → is_in numbers (row program f) g ≡ (test g && is_in numbers (range_with_len 0 (length program.funcs)) g)
-    same g = is_in-filter numbers (may_by program (slice_get program.funcs f)) (range_with_len 0 (length program.funcs)) g
+    same : (g : ℕ) → is_in numbers (row program counts f) g ≡ (test g && is_in numbers (range_with_len 0 (length program.funcs)) g)
+    same g = is_in-filter numbers (may_by program counts (slice_get program.funcs f)) (range_with_len 0 (length program.funcs)) g
 
-    to : (g : ℕ) → is_in numbers (row program f) g ≡ true → MayCall program false f g
+    to : (g : ℕ) → is_in numbers (row program counts f) g ≡ true → MayCall program counts f g
     to g h =
         let parts = and_parts (test g) (is_in numbers (range_with_len 0 (length program.funcs)) g) (sym (same g) ∙ h) in
         let bounds = in_range 0 (length program.funcs) g parts.1 in
@@ -109,24 +122,24 @@ row_is program f func names = record {
           func = func;
           names = names;
           inside = omega (arith, bounds.1);
-          by = any_from program (slots_of func) (all_calls (body_code func.body)) g (sym (ap (λ (o : Option Func). may_by program o g) names) ∙ parts.0);
+          by = any_from program (slots_of func) counts (all_calls (body_code func.body)) g (sym (ap (λ (o : Option Func). may_by program counts o g) names) ∙ parts.0);
         }
 
-    from : (g : ℕ) → MayCall program false f g → is_in numbers (row program f) g ≡ true
+    from : (g : ℕ) → MayCall program counts f g → is_in numbers (row program counts f) g ≡ true
     from g m =
-        let found : may_by program (Some m.func) g ≡ true = any_to program (slots_of m.func) (all_calls (body_code m.func.body)) g m.by.at m.by.call m.by.is m.by.leads in
-        same g ∙ and_from (test g) (is_in numbers (range_with_len 0 (length program.funcs)) g) (ap (λ (o : Option Func). may_by program o g) m.names ∙ found) (from_range 0 (length program.funcs) g (omega arith) (omega (arith, m.inside)))
+        let found : may_by program counts (Some m.func) g ≡ true = any_to program (slots_of m.func) counts (all_calls (body_code m.func.body)) g m.by.at m.by.call m.by.is m.by.leads in
+        same g ∙ and_from (test g) (is_in numbers (range_with_len 0 (length program.funcs)) g) (ap (λ (o : Option Func). may_by program counts o g) m.names ∙ found) (from_range 0 (length program.funcs) g (omega arith) (omega (arith, m.inside)))
 
 -- for each function those that it may call
-abbrev pub graph_of : Program → List (List ℕ)
-graph_of program = map (row program) (range_with_len 0 (length program.funcs))
+abbrev pub graph_of : Program → (kernel_calls : Bool) → List (List ℕ)
+graph_of program counts = map (row program counts) (range_with_len 0 (length program.funcs))
 
-pub graph_is : (program : Program) → AreCallees program false (graph_of program)
-graph_is program = record { size = length-map-range_with_len (row program) 0 (length program.funcs); rows = rows }
+pub graph_is : (program : Program) (counts : Bool) → AreCallees program counts (graph_of program counts)
+graph_is program counts = record { size = length-map-range_with_len (row program counts) 0 (length program.funcs); rows = rows }
   where
-    rows : (f : ℕ) → f < length program.funcs → IsRow program false f (get_or (graph_of program) f [])
+    rows : (f : ℕ) → f < length program.funcs → IsRow program counts f (get_or (graph_of program counts) f [])
     rows f inside = of (slice_get_cases program.funcs f).1
       where
-        of : ((x : Func) × (f < length program.funcs) × (slice_get program.funcs f ≡ Some x) × (get_or program.funcs f x ≡ x)) ⊎ ((length program.funcs ≤ f) × (slice_get program.funcs f ≡ None)) → IsRow program false f (get_or (graph_of program) f [])
-        of (inl c) = subst (IsRow program false f) (sym (get_or-map-range_with_len (row program) 0 (length program.funcs) f f [] inside (omega arith))) (row_is program f c.0 c.2)
+        of : ((x : Func) × (f < length program.funcs) × (slice_get program.funcs f ≡ Some x) × (get_or program.funcs f x ≡ x)) ⊎ ((length program.funcs ≤ f) × (slice_get program.funcs f ≡ None)) → IsRow program counts f (get_or (graph_of program counts) f [])
+        of (inl c) = subst (IsRow program counts f) (sym (get_or-map-range_with_len (row program counts) 0 (length program.funcs) f f [] inside (omega arith))) (row_is program counts f c.0 c.2)
         of (inr c) = absurd (omega (arith, c.0, inside))

@@ -1,7 +1,6 @@
--- Code of the kernel half does the same where the run would end with what is passed on dead, or with a call of user code.
+-- Code of the kernel half does the same where the run would end with what is passed on dead, if its calls of user code do.
 use Rattle.std.proofs.Common.{◌≡◌, inr, ℕ, suc, ◌+◌, Bool, true, false, not, List, [], ◌∷◌, map, slice_get, Option, Some, None, refl, sym, ap, ◌∙◌, subst}
 use Rattle.mdr_callees.specs.Callees.{uses_by}
-use Rattle.mdr_callees.proofs.BackLaws.{one_graph}
 use Rattle.mdr_core.specs.declared.place.At.{At}
 use Rattle.mdr_core.specs.declared.plan.Half.{Half}
 use Rattle.mdr_core.specs.declared.plan.Half.TheVariants.{Kernel}
@@ -9,6 +8,7 @@ use Rattle.mdr_core.specs.declared.plan.Plan.{Plan}
 use Rattle.mdr_core.specs.declared.program.Func.{Func}
 use Rattle.mdr_core.specs.declared.program.Param.{Param}
 use Rattle.mdr_core.specs.declared.program.Program.{Program}
+use Rattle.mdr_core.specs.declared.stop.StopKind.{StopKind}
 use Rattle.mdr_core.specs.declared.types.Ty.TheVariants.{Void}
 use Rattle.mdr_core.specs.Layout.{chosen}
 use Rattle.mdr_meaning.specs.declared.wire.Wire.{Wire}
@@ -24,26 +24,25 @@ use Rattle.mdr_plain.specs.Gate.{Gate, are_none, due}
 use Rattle.mdr_plain.specs.Running.{Before, Crossing, all_cells, call, handled, handling, in_kernel, interrupted, interrupts, nothing, run}
 use Rattle.mdr_plain.specs.Services.{served}
 use Rattle.mdr_plain.specs.Storage.{next_serial}
-use Rattle.mdr_plain.specs.World.{Ended, Ran, Work, World, after, done}
-use Rattle.mdr_plain.proofs.KeepLaws.{IsKept}
+use Rattle.mdr_plain.specs.World.{Ended, Ran, Stopped, Work, World, after, done}
 use Rattle.mdr_plain.proofs.RunLaws.{interrupts_are_gated}
 use Rattle.mdr_slice.specs.declared.halves.Halves.{Halves}
 use Rattle.mdr_watched.specs.Driver.{Driver, driver_of, is_user, is_user_half}
 use Rattle.mdr_watched.specs.Kept.{due_plainly, meets_none, unless_due}
 use Rattle.mdr_watched.specs.Watched.{kernel_of, kernel_with, may_not}
-use Rattle.mdr_watched.proofs.KeptProofs.{tries_lead}
+use Rattle.mdr_watched.proofs.KeptProofs.{CrossesLead, tries_lead}
 use Rattle.mdr_holds.specs.Holding.{Holds, IsHandler}
-use Rattle.mdr_holds.specs.Laws.{CallsItself, IsAround, IsCalled, IsDriver}
+use Rattle.mdr_holds.specs.Laws.{CallsAcross, IsAround, IsCalled, IsDriver}
 use Rattle.mdr_holds.specs.Leaving.{GivesResult, Later}
 use Rattle.mdr_holds.proofs.Drivers.{programs_are_drivers}
 use Rattle.mdr_holds.proofs.Kernel.{kernel_code_leaves, may_not_across, start_fair, with_interrupts}
 use Rattle.mdr_holds.proofs.Steps.{kept_later}
-use Rattle.mdr_kept.specs.Current.{AreCurrent}
+use Rattle.mdr_kept.specs.Current.{AreCurrent, IsCurrent}
 use Rattle.mdr_kept.proofs.TreeLaws.{scoped_trees_are_current}
-use Rattle.mdr_kept.specs.Strict.{call_alone, handled_alone, in_kernel_alone, run_alive, tries}
+use Rattle.mdr_kept.specs.Strict.{call_alive, handled_alive, run_alive, tries}
 use Rattle.mdr_kept.specs.ReportLaws.{IsDriven}
-use Rattle.mdr_kept.proofs.AliveLaws.{AreAliveAround, EndsAround, IsCrossing, Reaches, code_alive, reaches}
-use Rattle.mdr_kept.proofs.CallLaws.{AnswersCurrent, LeavesWithout, served_current, served_keep, served_left}
+use Rattle.mdr_kept.proofs.AliveLaws.{AreAliveAround, EndsAround, Reaches, code_alive, reaches}
+use Rattle.mdr_kept.proofs.CallLaws.{AnswersCurrent, LeavesWithout, served_current, served_left}
 use Rattle.mdr_kept.proofs.Graphs.{graph_is, graph_of}
 use Rattle.mdr_kept.proofs.LiveLaws.{knows}
 
@@ -70,24 +69,17 @@ module _ (program : Program) (plan : Plan) (driven : IsDriven program plan) wher
   d = driver_of program plan
 
   abbrev pub uses : Uses
-  uses = uses_by program (graph_of program)
+  uses = uses_by program (graph_of program true)
 
   abbrev halves : Halves
   halves = driven.sliced.halves
 
   pub driver : IsDriver d uses
-  driver = programs_are_drivers.driver program driven.sound plan (graph_of program) (one_graph program driven.nothing_back (graph_of program) (graph_is program))
+  driver = programs_are_drivers.driver program driven.sound plan (graph_of program true) (graph_is program true)
 
-  -- ---- functions of the kernel half
+  -- ---- which functions have bodies where
 
-  -- its code calls no other function
-  itself : CallsItself uses d.kernel
-  itself = programs_are_drivers.kernel program plan driven.sliced.roots halves driven.sliced.are_halves driven.sliced.halves_are driven.bodies (graph_of program) (graph_is program)
-
-  apart : {X : Type 0} (at : At) (f : ℕ) (args : List Wire) (depth : ℕ) → IsCrossing program uses d.kernel at f args depth → X
-  apart at f args depth c = absurd (itself at.func f c.place.body c.place.own (sym (ap (λ (u : Uses). u.calls at.func f) c.uses_are) ∙ c.call.calls) c.none)
-
-  no_body : {X : Type 0} (body : Body) → ◌≡◌ {A = Option Body} None (Some body) → X
+  pub no_body : {X : Type 0} (body : Body) → ◌≡◌ {A = Option Body} None (Some body) → X
   no_body body e = absurd cc
 
   -- each function without a body in the user half has one here
@@ -108,83 +100,101 @@ module _ (program : Program) (plan : Plan) (driven : IsDriven program plan) wher
       let root = (driven.sliced.are_roots.exact f).1 (record { func = x.func; names = x.names; why = inr handles }) in
       kernel_apart f ((driven.sliced.are_halves.kernel f).1 (Begin f root))
 
+  -- ---- calls of user code
+
+  -- kernel code calls user code so in a followed run, and so in a strict one: both do the same, and leave what such calls leave in a run that holds interrupts back
+  pub record AreSame (crosses crosses' : Crossing) : Type 0 where
+    pub held : Crossing
+    pub leads : CrossesLead d crosses held
+    pub across : CallsAcross program uses held
+    pub same : (K : Knowledge) (w : World) → K.uses ≡ uses → Holds program K w → (at : At) (f : ℕ) (func : Func) (args : List Wire) (depth : ℕ) → IsCalled program K f func args → AreCurrent (is_live w.memory) args → d.kernel.own f ≡ None
+        → crosses at f args depth w ≡ crosses' at f args depth w
+    pub result : (at : At) (f : ℕ) (args : List Wire) (depth : ℕ) (w : World) (v : Wire) (w' : World) → crosses at f args depth w ≡ Ended v w' → IsCurrent (is_live w'.memory) v
+
+  no_end : {X : Type 0} (kind : StopKind) (at : Option At) (w w' : World) (v : Wire) → ◌≡◌ {A = Ran Wire} (Stopped kind at w) (Ended v w') → X
+  no_end kind at w w' v e = absurd cc
+
+  -- handlers call none
+  none_same : AreSame may_not may_not
+  none_same = record {
+    held = may_not;
+    leads = λ at f args depth w. record { by = λ v w' e. e };
+    across = may_not_across program uses;
+    same = λ K w same h at f func args depth c current none. refl;
+    result = λ at f args depth w v w' e. no_end _ _ w w' v e;
+  }
+
   -- ---- what kernel code does
 
-  -- whatever calls of the user half do, since there are none
-  module _ (crosses : Crossing) where
+  module _ (crosses crosses' : Crossing) (calls : AreSame crosses crosses') where
     around_kernel : (before : Before) → IsAround program uses (served program) may_not before → EndsAround program uses d.kernel (served program) crosses before
     around_kernel before around =
         let there = as_ends program uses d.kernel (served program) may_not before around in
         record {
           serve = there.serve;
-          cross = λ K w same h at f args depth func place none c v w' e. apart at f args depth (record { known = K; uses_are = same; func = func; place = place; none = none; call = c });
+          cross = λ K w same h at f args depth func place none c v w' e.
+              let r : Reaches (Later program (next_serial w) K w) (GivesResult program func.result w) v w' =
+              reaches _ _ (calls.held at f args depth w) (calls.across K w same h at f args depth func (record { names = c.names; fit = c.fit })) v w' ((calls.leads at f args depth w).by v w' e) in
+              record { known = r.known; left = r.left; gives = r.gives.fits };
           tries = there.tries;
         }
 
-    module _ (P : World → Type 0) (kept : IsKept P) (before before' : Before) (ends : EndsAround program uses d.kernel (served program) crosses before)
-        (agree : (K : Knowledge) (w : World) → K.uses ≡ uses → Holds program K w → P w → (depth : ℕ) → before depth w ≡ before' depth w)
-        (keeps : (depth : ℕ) (w : World) (x : Unit {0}) (w' : World) → P w → before depth w ≡ Ended x w' → P w') where
-      alive : AreAliveAround program uses d.kernel P (served program) crosses before (served program) may_not before'
+    module _ (before before' : Before) (ends : EndsAround program uses d.kernel (served program) crosses before) (agree : (K : Knowledge) (w : World) → K.uses ≡ uses → Holds program K w → (depth : ℕ) → before depth w ≡ before' depth w) where
+      alive : AreAliveAround program uses d.kernel (served program) crosses before (served program) crosses' before'
       alive = record {
-        kept = kept;
-        serve = λ K w same h p a c. refl;
-        cross = λ K w same h p at f args depth func place none call c. apart at f args depth (record { known = K; uses_are = same; func = func; place = place; none = none; call = call });
+        serve = λ K w same h a c. refl;
+        cross = λ K w same h at f args depth func place none call c. calls.same K w same h at f func args depth (record { names = call.names; fit = call.fit }) c none;
         tries = agree;
         served = λ a w rs w' e. subst AnswersCurrent e (served_current program a w);
         left = λ a w rs w' names c e. subst (LeavesWithout a.args w) e (served_left program a w names c);
-        result = λ at f args depth c w v w' e. apart at f args depth c;
-        keeps_serve = λ a w rs w' p e. served_keep P kept program a w rs w' p e;
-        keeps_cross = λ at f args depth c w v w' p e. apart at f args depth c;
-        keeps_try = keeps;
+        result = calls.result;
       }
 
-      pub calls_same : (K : Knowledge) (w : World) → K.uses ≡ uses → Holds program K w → P w → (f : ℕ) (func : Func) (args : List Wire) (depth : ℕ) → IsCalled program K f func args → AreCurrent (is_live w.memory) args → d.user.own f ≡ None
-          → call (kernel_with d crosses) before f args depth w ≡ call_alone d before' f args depth w
+      pub calls_same : (K : Knowledge) (w : World) → K.uses ≡ uses → Holds program K w → (f : ℕ) (func : Func) (args : List Wire) (depth : ℕ) → IsCalled program K f func args → AreCurrent (is_live w.memory) args → d.user.own f ≡ None
+          → call (kernel_with d crosses) before f args depth w ≡ call_alive d crosses' before' f args depth w
       unfolding call
-      calls_same K w same h p f func args depth c current none = of (d.kernel.own f) refl where
-        of : (o : Option Body) → d.kernel.own f ≡ o → run (in_kernel program crosses) before (started d.kernel (suc w.clock.rest) f args depth Tree.Idle) w ≡ run_alive (in_kernel_alone d) before' (started d.kernel (suc w.clock.rest) f args depth Tree.Idle) w
+      calls_same K w same h f func args depth c current none = of (d.kernel.own f) refl where
+        of : (o : Option Body) → d.kernel.own f ≡ o → run (in_kernel program crosses) before (started d.kernel (suc w.clock.rest) f args depth Tree.Idle) w ≡ run_alive (in_kernel program crosses') before' (started d.kernel (suc w.clock.rest) f args depth Tree.Idle) w
         of None e = entered f func c.names none e
         of (Some body) e =
-            code_alive program driven.sound uses (served program) crosses before d.kernel ends all_cells (suc depth + 256) func.result P (served program) may_not before' alive K w (started d.kernel (suc w.clock.rest) f args depth Tree.Idle) same h p
+            code_alive program driven.sound uses (served program) crosses before d.kernel ends all_cells (suc depth + 256) func.result (served program) crosses' before' alive K w (started d.kernel (suc w.clock.rest) f args depth Tree.Idle) same h
             (start_fair program driven.sound uses d.kernel driver.kernel K w same h f func args depth c body e (suc w.clock.rest))
             (scoped_trees_are_current program driven.sound driven.scoped d.kernel driver.kernel.bodies (suc w.clock.rest) f (is_live w.memory) args depth (knows program K w h (next_serial w) [] tt) current Tree.Idle)
 
   -- ---- interrupts
 
-  pub any : IsKept (λ w. Unit {0})
-  any = record { memory = λ w m p. tt; keeping = λ w k p. tt; device = λ w x p. tt; tick = λ w p. tt; birth = λ w b p. tt; death = λ w s p. tt }
-
-  handled_same : (K : Knowledge) (w : World) → K.uses ≡ uses → Holds program K w → (depth : ℕ) (o : Option ℕ) → due w ≡ o → handled (kernel_of d) depth o w ≡ handled_alone d depth o w
+  handled_same : (K : Knowledge) (w : World) → K.uses ≡ uses → Holds program K w → (depth : ℕ) (o : Option ℕ) → due w ≡ o → handled (kernel_of d) depth o w ≡ handled_alive d depth o w
   handled_same K w same h depth None e = refl
   handled_same K w same h depth (Some f) e =
       let gate : Gate w f = (interrupts_are_gated w f).0 e in
       let x : IsHandler program K.uses f = h.handler f gate.registered in
       let now : Holds program K (interrupted f w) = (kept_later program (next_serial w) K w _ h refl h.handler).holds in
       ap (λ (r : Ran Wire). after r (λ v w'. done (handling false w')))
-      (calls_same may_not (λ u. Unit {0}) any nothing nothing (around_kernel may_not nothing (kernel_code_leaves.alone program driven.sound uses may_not (may_not_across program uses))) (λ K' u same' h' p depth'. refl) (λ depth' u y u' p q. tt) K (interrupted f w) same now tt f x.func [] depth
+      (calls_same may_not may_not none_same nothing nothing (around_kernel may_not may_not none_same nothing (kernel_code_leaves.alone program driven.sound uses may_not (may_not_across program uses))) (λ K' u same' h' depth'. refl) K (interrupted f w) same now f x.func [] depth
       (handler_called program K f x) tt (handler_apart K same f x))
 
-  pub interrupts_same : (K : Knowledge) (w : World) → K.uses ≡ uses → Holds program K w → (depth : ℕ) → interrupts (kernel_of d) depth w ≡ handled_alone d depth (due w) w
+  pub interrupts_same : (K : Knowledge) (w : World) → K.uses ≡ uses → Holds program K w → (depth : ℕ) → interrupts (kernel_of d) depth w ≡ handled_alive d depth (due w) w
   unfolding interrupts
   interrupts_same K w same h depth = handled_same K w same h depth (due w) refl
 
-  pub tries_same : (K : Knowledge) (w : World) → K.uses ≡ uses → Holds program K w → (depth : ℕ) → meets_none (kernel_of d) depth w ≡ tries d depth w
+  tries_same : (K : Knowledge) (w : World) → K.uses ≡ uses → Holds program K w → (depth : ℕ) → meets_none (kernel_of d) depth w ≡ tries d depth w
   tries_same K w same h depth = ap (λ (r : Work). chosen (are_none w.views) r (unless_due (due_plainly w) w)) (interrupts_same K w same h depth)
 
-  pub ends_with_interrupts : (crosses : Crossing) → EndsAround program uses d.kernel (served program) crosses (interrupts (kernel_of d))
-  ends_with_interrupts crosses = around_kernel crosses (interrupts (kernel_of d)) (with_interrupts program driven.sound uses d.kernel driver.kernel may_not (may_not_across program uses) may_not (may_not_across program uses))
+  -- what a tried interrupt leaves
+  pub interrupts_reach : (K : Knowledge) (w : World) → K.uses ≡ uses → Holds program K w → (depth : ℕ) (x : Unit {0}) (w' : World) → interrupts (kernel_of d) depth w ≡ Ended x w' → Reaches (Later program (next_serial w) K w) (λ K' y u. Unit {0}) x w'
+  interrupts_reach = (around_kernel may_not may_not none_same (interrupts (kernel_of d)) (with_interrupts program driven.sound uses d.kernel driver.kernel may_not (may_not_across program uses) may_not (may_not_across program uses))).tries
 
-  ends_with_tries : (crosses : Crossing) → EndsAround program uses d.kernel (served program) crosses (meets_none (kernel_of d))
-  ends_with_tries crosses =
-      let there = ends_with_interrupts crosses in
-      record {
-        serve = there.serve;
-        cross = there.cross;
-        tries = λ K w same h depth x w' e. there.tries K w same h depth x w' ((tries_lead (kernel_of d) depth w).by x w' e);
-      }
+  module _ (crosses crosses' : Crossing) (calls : AreSame crosses crosses') where
+    ends_with_tries : EndsAround program uses d.kernel (served program) crosses (meets_none (kernel_of d))
+    ends_with_tries =
+        let there = around_kernel crosses crosses' calls (interrupts (kernel_of d)) (with_interrupts program driven.sound uses d.kernel driver.kernel may_not (may_not_across program uses) may_not (may_not_across program uses)) in
+        record {
+          serve = there.serve;
+          cross = there.cross;
+          tries = λ K w same h depth x w' e. there.tries K w same h depth x w' ((tries_lead (kernel_of d) depth w).by x w' e);
+        }
 
-  -- a function that user code or a command calls
-  pub downs_same : (crosses : Crossing) (K : Knowledge) (w : World) → K.uses ≡ uses → Holds program K w → (f : ℕ) (func : Func) (args : List Wire) (depth : ℕ) → IsCalled program K f func args → AreCurrent (is_live w.memory) args → d.user.own f ≡ None
-      → call (kernel_with d crosses) (meets_none (kernel_of d)) f args depth w ≡ call_alone d (tries d) f args depth w
-  downs_same crosses K w same h f func args depth c current none =
-      calls_same crosses (λ u. Unit {0}) any (meets_none (kernel_of d)) (tries d) (ends_with_tries crosses) (λ K' u same' h' p depth'. tries_same K' u same' h' depth') (λ depth' u y u' p q. tt) K w same h tt f func args depth c current none
+    -- a function that user code or a command calls
+    pub downs_same : (K : Knowledge) (w : World) → K.uses ≡ uses → Holds program K w → (f : ℕ) (func : Func) (args : List Wire) (depth : ℕ) → IsCalled program K f func args → AreCurrent (is_live w.memory) args → d.user.own f ≡ None
+        → call (kernel_with d crosses) (meets_none (kernel_of d)) f args depth w ≡ call_alive d crosses' (tries d) f args depth w
+    downs_same K w same h f func args depth c current none = calls_same crosses crosses' calls (meets_none (kernel_of d)) (tries d) ends_with_tries tries_same K w same h f func args depth c current none

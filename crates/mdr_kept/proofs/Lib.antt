@@ -25,6 +25,7 @@ pub mod Graphs
 pub mod LiveLaws
 pub mod AliveLaws
 pub mod CallLaws
+pub mod AloneLaws
 pub mod KernelLaws
 pub mod UserLaws
 pub mod RunLaws

@@ -1,5 +1,5 @@
 -- Whole runs: commands one by one, and then the reports.
-use Rattle.std.proofs.Common.{◌≡◌, ℕ, ℤ, zero, suc, ◌+◌, Bool, true, false, List, [], ◌∷◌, length, map, Option, None, refl, sym, ap, ◌∙◌, subst, arith}
+use Rattle.std.proofs.Common.{◌≡◌, ℕ, ℤ, zero, suc, ◌+◌, Bool, true, false, List, [], ◌∷◌, map, Option, Some, None, refl, sym, ap, ◌∙◌, subst}
 use Rattle.std.specs.Option.{option_map}
 use Rattle.mdr_core.specs.declared.place.At.{At}
 use Rattle.mdr_core.specs.declared.plan.Plan.{Plan}
@@ -12,6 +12,7 @@ use Rattle.mdr_core.specs.Layout.{chosen}
 use Rattle.mdr_meaning.specs.declared.wire.Wire.{Wire}
 use Rattle.mdr_meaning.specs.Fit.{Knowledge, KnowsGlobals, global_shape}
 use Rattle.mdr_meaning.specs.Numbers.{Numbered}
+use Rattle.mdr_meaning.specs.Sides.{Body}
 use Rattle.mdr_meaning.specs.Values.{wire_of}
 use Rattle.mdr_meaning.specs.Within.{Uses}
 use Rattle.mdr_model.specs.declared.command.Command.{Command}
@@ -22,59 +23,40 @@ use Rattle.mdr_model.specs.Values.{value_of}
 use Rattle.mdr_plain.specs.declared.outcome.Happened.{Happened}
 use Rattle.mdr_plain.specs.declared.outcome.Happened.TheVariants as happened
 use Rattle.mdr_plain.specs.Gate.{are_none, due}
-use Rattle.mdr_plain.specs.Running.{Crossing, call, interrupts}
+use Rattle.mdr_plain.specs.Running.{call, interrupts}
 use Rattle.mdr_plain.specs.Scripts.{Finish, and_then, begin, begun, called_by, commands, first_world, idle, in_place, poked_memory, returned, showed}
-use Rattle.mdr_plain.specs.Storage.{born, died, next_serial, with_memory, without}
-use Rattle.mdr_plain.specs.World.{Ended, Ran, Stopped, Work, World, advanced, after, counted, left, noted, then}
+use Rattle.mdr_plain.specs.Storage.{next_serial, with_memory}
+use Rattle.mdr_plain.specs.World.{Ended, Ran, Stopped, Work, World, advanced, after, counted, noted, then}
 use Rattle.mdr_bound.specs.declared.bound.Bound.{Bound}
 use Rattle.mdr_watched.specs.Driver.{Driver, driver_of, is_user}
 use Rattle.mdr_watched.specs.Kept.{due_plainly, followed_of, free, meets_none, unless_due}
-use Rattle.mdr_watched.specs.Views.{living}
 use Rattle.mdr_watched.specs.Watched.{backs, does, held, kernel_of, kernel_with, may_not, upcall}
-use Rattle.mdr_watched.proofs.CloseLaws.{upcalls_close}
-use Rattle.mdr_watched.proofs.KeepLaws.{IsKept, interrupts_keep}
 use Rattle.mdr_watched.proofs.KeptProofs.{backs_lead, calls_lead, upcalls_lead}
 use Rattle.mdr_holds.specs.Holding.{Holds, first_knowledge}
 use Rattle.mdr_holds.specs.Laws.{AreCommands, IsCalled, IsCommand, IsScript}
-use Rattle.mdr_holds.specs.Leaving.{GivesResult, Later, ViewsStay}
+use Rattle.mdr_holds.specs.Leaving.{GivesResult, Later}
 use Rattle.mdr_holds.proofs.Drivers.{programs_are_drivers}
 use Rattle.mdr_holds.proofs.First.{first_holds}
 use Rattle.mdr_holds.proofs.Kernel.{called as kernel_called, may_not_across, tried as tried_kernel}
 use Rattle.mdr_holds.proofs.Memories.{globals_known}
 use Rattle.mdr_holds.proofs.Poking.{poked_later}
-use Rattle.mdr_holds.proofs.Steps.{in_order, kept_holds, tick_later}
+use Rattle.mdr_holds.proofs.Steps.{kept_holds, tick_later}
 use Rattle.mdr_holds.proofs.User.{back_leaves, upcall_leaves}
-use Rattle.mdr_holds.proofs.Views.{called_views}
 use Rattle.mdr_kept.specs.Current.{AreCurrent}
-use Rattle.mdr_kept.specs.Strict.{call_alone, called, does as does_strictly, handled_alone, strict_of, tries, upcall as upcall_strictly}
+use Rattle.mdr_kept.specs.Strict.{call_alive, called, does as does_strictly, handled_alive, strict_of, tries, upcall as upcall_strictly, ups}
 use Rattle.mdr_kept.proofs.EvenLaws.{NoViews}
 use Rattle.mdr_kept.proofs.ShownLaws.{strict_reports_agree}
 use Rattle.mdr_kept.specs.ReportLaws.{FollowedRunsAreStrict, IsDriven, KeptReportsAgree}
 use Rattle.mdr_kept.proofs.AliveLaws.{Reaches, ended_is, reaches}
+use Rattle.mdr_kept.proofs.AloneLaws.{alone_at_end, call_alone, interrupts_alone, up_alone}
 use Rattle.mdr_kept.proofs.CallLaws.{arguments_current}
 use Rattle.mdr_kept.proofs.Graphs.{graph_of}
-use Rattle.mdr_kept.proofs.KernelLaws.{d, downs_same, driver, ends_with_interrupts, interrupts_same, no_user_body, uses}
+use Rattle.mdr_kept.proofs.KernelLaws.{d, downs_same, driver, interrupts_reach, interrupts_same, no_user_body, uses}
 use Rattle.mdr_kept.proofs.LiveLaws.{knows}
-use Rattle.mdr_kept.proofs.UserLaws.{upcall_same}
+use Rattle.mdr_kept.proofs.UserLaws.{backs_same, upcall_same}
 
 no_end : {A X : Type 0} (kind : StopKind) (at : Option At) (w w' : World) (x : A) → ◌≡◌ {A = Ran A} (Stopped kind at w) (Ended x w') → X
 no_end kind at w w' x e = absurd cc
-
-empty : (views : List (List Cell)) → length views ≡ 0 → views ≡ []
-empty [] e = refl
-empty (set ∷ sets) e = absurd (omega (arith, e))
-
--- each single step of a watched run leaves no visible set where there was none
-none_left : IsKept NoViews
-unfolding NoViews born died
-none_left = record {
-  put = λ w c v e. e;
-  keeping = λ w k e. e;
-  device = λ w d e. e;
-  tick = λ w e. e;
-  birth = λ program kind s w e. e;
-  death = λ w serial e. ap (map (without serial)) e;
-}
 
 first_knows : (program : Program) (u : Uses) → KnowsGlobals program (first_knowledge program u)
 first_knows program u = record { knows = λ g def e. ap (option_map (global_shape program)) e }
@@ -116,20 +98,12 @@ module _ (program : Program) (plan : Plan) (driven : IsDriven program plan) wher
 
   -- ---- interrupts where no upcall is open
 
-  no_views_after : (w : World) → NoViews w → (depth : ℕ) (x : Unit {0}) (w' : World) → interrupts (kernel_of e) depth w ≡ Ended x w' → NoViews w'
-  no_views_after w alone depth x w' q = subst (λ (r : Work). NoViews (left r)) q (interrupts_keep NoViews none_left e depth w alone).at_end
-
-  alone_tries : (K : Knowledge) (w : World) → K.uses ≡ u → Holds program K w → NoViews w → (depth : ℕ) → interrupts (kernel_of e) depth w ≡ tries e depth w
-  unfolding NoViews
-  alone_tries K w same h alone depth =
-      interrupts_same program plan driven K w same h depth
-      ∙ ap (λ (views : List (List Cell)). chosen (are_none views) (handled_alone e depth (due w) w) (unless_due (due_plainly w) w)) (sym alone)
-
   tried : (w : World) → Fine w → Same (interrupts (kernel_of e) 0 w) (tries e 0 w)
   unfolding NoViews
   tried w f = record {
-    is = alone_tries f.known w f.uses_are f.holds f.alone 0;
-    fine = λ x w' q. let r = (ends_with_interrupts program plan driven may_not).tries f.known w f.uses_are f.holds 0 x w' q in record { known = r.known; uses_are = r.left.grows.same ∙ f.uses_are; holds = r.left.holds; alone = no_views_after w f.alone 0 x w' q };
+    is = interrupts_same program plan driven f.known w f.uses_are f.holds 0 ∙ ap (λ (views : List (List Cell)). chosen (are_none views) (handled_alive e 0 (due w) w) (unless_due (due_plainly w) w)) (sym f.alone);
+    fine = λ x w' q. let r = interrupts_reach program plan driven f.known w f.uses_are f.holds 0 x w' q in
+        record { known = r.known; uses_are = r.left.grows.same ∙ f.uses_are; holds = r.left.holds; alone = alone_at_end (interrupts (kernel_of e) 0 w) (interrupts_alone e 0 w f.alone) x w' q };
   }
 
   returned_same : (r s : Ran Wire) → Same r s → Same (returned (interrupts (kernel_of e)) r) (returned (tries e) s)
@@ -143,36 +117,35 @@ module _ (program : Program) (plan : Plan) (driven : IsDriven program plan) wher
   -- ---- calls
 
   module _ (f : ℕ) (func : Func) (args : List Wire) (w : World) (fine : Fine w) (c : IsCalled program fine.known f func args) (current : AreCurrent (is_live w.memory) args) where
-    up_same : Same (upcall e (free e) (backs e (free e)) f args 0 w) (upcall_strictly e f args w)
-    up_same = record {
-      is = upcall_same program plan driven (backs e (free e)) f func args fine.known w fine.uses_are fine.holds c current;
-      fine = λ v w' q.
-          let there = (upcalls_lead e (backs e (free e)) (backs e (held e)) (backs_lead e 256) f args 0 w).by v w' q in
-          let r : Reaches (Later program (next_serial w) fine.known w) (GivesResult program func.result w) v w' = reaches _ _ (upcall e (held e) (backs e (held e)) f args 0 w)
-          (upcall_leaves e u (driver program plan driven) (backs e (held e)) (back_leaves e u (driver program plan driven) 256) f func args 0 fine.known w fine.uses_are fine.holds c) v w' there in
-          record { known = r.known; uses_are = r.left.grows.same ∙ fine.uses_are; holds = r.left.holds; alone = empty w'.views (upcalls_close e 256 f args 0 w v w' there ∙ ap (λ (views : List (List Cell)). length views) fine.alone) };
-    }
+    up_same : is_user plan f ≡ true → Same (upcall e (free e) (backs e (free e)) f args 0 w) (upcall_strictly e (ups e) f args 0 w)
+    unfolding NoViews
+    up_same user =
+        let owned : (body : Body) × (e.user.own f ≡ Some body) = (programs_are_drivers.halves program driven.bodies plan).user f func c.names user in
+        record {
+          is = upcall_same program plan driven (backs e (free e)) (ups e) (backs_same program plan driven 256) f func args 0 fine.known w fine.uses_are fine.holds c current owned.0 owned.1;
+          fine = λ v w' q.
+              let there = (upcalls_lead e (backs e (free e)) (backs e (held e)) (backs_lead e 256) f args 0 w).by v w' q in
+              let r : Reaches (Later program (next_serial w) fine.known w) (GivesResult program func.result w) v w' = reaches _ _ (upcall e (held e) (backs e (held e)) f args 0 w)
+              (upcall_leaves e u (driver program plan driven) (backs e (held e)) (back_leaves e u (driver program plan driven) 256) f func args 0 fine.known w fine.uses_are fine.holds c) v w' there in
+              record { known = r.known; uses_are = r.left.grows.same ∙ fine.uses_are; holds = r.left.holds; alone = alone_at_end (upcall e (held e) (backs e (held e)) f args 0 w) (up_alone e 256 f args 0 w fine.alone) v w' there };
+        }
 
-    call_same : is_user plan f ≡ false → Same (call (kernel_with e (backs e (free e))) (meets_none (kernel_of e)) f args 0 w) (call_alone e (tries e) f args 0 w)
+    call_same : is_user plan f ≡ false → Same (call (kernel_with e (backs e (free e))) (meets_none (kernel_of e)) f args 0 w) (call_alive e (ups e) (tries e) f args 0 w)
+    unfolding NoViews
     call_same kernel = record {
-      is = downs (backs e (free e));
-      fine = λ v w' q0.
-          let q : call (kernel_of e) (interrupts (kernel_of e)) f args 0 w ≡ Ended v w' = (calls_lead e may_not may_not (λ at g vs n w1. record { by = λ x w2 r. r }) f args 0 w).by v w' (downs may_not ∙ sym (downs (backs e (free e))) ∙ q0) in
+      is = downs_same program plan driven (backs e (free e)) (ups e) (backs_same program plan driven 256) fine.known w fine.uses_are fine.holds f func args 0 c current (no_user_body program plan driven f kernel);
+      fine = λ v w' q.
+          let there : call (kernel_with e (backs e (held e))) (interrupts (kernel_of e)) f args 0 w ≡ Ended v w' = (calls_lead e (backs e (free e)) (backs e (held e)) (backs_lead e 256) f args 0 w).by v w' q in
           let r : Reaches (Later program (next_serial w) fine.known w) (GivesResult program func.result w) v w' =
-          reaches _ _ (call (kernel_of e) (interrupts (kernel_of e)) f args 0 w)
-          (kernel_called program driven.sound u e.kernel (driver program plan driven).kernel may_not (may_not_across program u) (interrupts (kernel_of e)) (tried_kernel program driven.sound u e.kernel (driver program plan driven).kernel may_not (may_not_across program u)) fine.known w fine.uses_are fine.holds f func args 0 c) v w' q in
-          record { known = r.known; uses_are = r.left.grows.same ∙ fine.uses_are; holds = r.left.holds; alone = gone v w' q };
+          reaches _ _ (call (kernel_with e (backs e (held e))) (interrupts (kernel_of e)) f args 0 w)
+          (kernel_called program driven.sound u e.kernel (driver program plan driven).kernel (backs e (held e)) (back_leaves e u (driver program plan driven) 256) (interrupts (kernel_of e))
+          (tried_kernel program driven.sound u e.kernel (driver program plan driven).kernel may_not (may_not_across program u)) fine.known w fine.uses_are fine.holds f func args 0 c) v w' there in
+          record { known = r.known; uses_are = r.left.grows.same ∙ fine.uses_are; holds = r.left.holds; alone = alone_at_end (call (kernel_with e (backs e (held e))) (interrupts (kernel_of e)) f args 0 w) (call_alone e 256 f args 0 w fine.alone) v w' there };
     }
-      where
-        downs : (crosses : Crossing) → call (kernel_with e crosses) (meets_none (kernel_of e)) f args 0 w ≡ call_alone e (tries e) f args 0 w
-        downs crosses = downs_same program plan driven crosses fine.known w fine.uses_are fine.holds f func args 0 c current (no_user_body program plan driven f kernel)
-
-        gone : (v : Wire) (w' : World) → call (kernel_of e) (interrupts (kernel_of e)) f args 0 w ≡ Ended v w' → w'.views ≡ []
-        gone v w' q = subst (λ (r : Ran Wire). ViewsStay w (left r)) q (called_views e f args 0 w (in_order program fine.known w fine.holds)) ∙ ap (map (living w'.memory)) fine.alone
 
   called_same : (w : World) (f : ℕ) (func : Func) (args : List Wire) (fine : Fine w) → IsCalled program fine.known f func args → AreCurrent (is_live w.memory) args → (b : Bool) → is_user plan f ≡ b
       → Same (in_place (kernel_of e) (λ g vs w'. call (kernel_with e (backs e (free e))) (meets_none (kernel_of e)) g vs 0 w') (λ g vs w'. upcall e (free e) (backs e (free e)) g vs 0 w') (called_by b (kernel_of e) f args w)) (returned (tries e) (called e b f args w))
-  called_same w f func args fine c current true is = returned_same _ _ (up_same f func args w fine c current)
+  called_same w f func args fine c current true is = returned_same _ _ (up_same f func args w fine c current is)
   called_same w f func args fine c current false is = returned_same _ _ (call_same f func args w fine c current is)
 
   -- ---- commands
@@ -217,7 +190,7 @@ module _ (program : Program) (plan : Plan) (driven : IsDriven program plan) wher
     known = first_knowledge program u;
     uses_are = refl;
     holds = subst (λ (known : Numbered). Holds program (first_knowledge program u) (first_world known script budget)) (sym (driver program plan driven).kernel.bodies.known)
-        (first_holds program driven.sound u (programs_are_drivers.first program (graph_of program)) script fits budget);
+        (first_holds program driven.sound u (programs_are_drivers.first program (graph_of program true)) script fits budget);
     alone = refl;
   }
 

@@ -12,11 +12,12 @@ use Rattle.mdr_meaning.specs.Worked.{at_stmt, node_pointer}
 use Rattle.mdr_model.specs.declared.outcome.End.TheVariants as ends
 use Rattle.mdr_paths.specs.Paths.{adds, counted, fails, first, is_in, is_led, leads, round, rounds, visible as reached, visible_set}
 use Rattle.mdr_plain.proofs.Computing.{runs}
+use Rattle.mdr_plain.specs.Atomic.{is_any_spinning, is_atomic}
 use Rattle.mdr_watched.specs.Kept.{followed_of}
 use Rattle.mdr_watched.specs.Views.{new_cells}
-use Rattle.mdr_watched.specs.Watched.{upcall}
-use Rattle.mdr_kept.specs.Strict.{run_alive, strict_of}
-use Rattle.mdr_kept.specs.Worked.{AreStrict, DeadResultsAreAlike, TellsLeftObjects, TellsLocks, leaving, plainly, used}
+use Rattle.mdr_watched.specs.Watched.{calls_back, upcall}
+use Rattle.mdr_kept.specs.Strict.{goes_up, run_alive, strict_of}
+use Rattle.mdr_kept.specs.Worked.{AreStrict, DeadResultsAreAlike, TellsCallsBack, TellsLeftObjects, TellsLocks, leaving, plainly, used}
 
 unfoldable follows : Unit {0}
 unfolding
@@ -24,16 +25,20 @@ unfolding
     extent first_of is_touched length_now views_touched
     all_cells extent_at first_failing graph own_cells root_cells root_extent visible
     adds counted fails first is_in is_led leads round rounds reached visible_set
-    new_cells upcall followed_of run_alive strict_of
+    new_cells is_atomic is_any_spinning calls_back upcall followed_of goes_up run_alive strict_of
 follows = tt
 
 pub are_strict : AreStrict
 unfolding follows
-are_strict = record { alias = refl; array = refl; object = refl }
+are_strict = record { alias = refl; array = refl; object = refl; back = refl }
 
 pub tells_locks : TellsLocks
 unfolding follows
 tells_locks = record { strict = refl; kept = refl; followed = refl; plain = refl }
+
+pub tells_calls_back : TellsCallsBack
+unfolding follows
+tells_calls_back = record { strict = refl; kept = refl; plain = refl }
 
 pub dead_results_are_alike : DeadResultsAreAlike
 unfolding follows

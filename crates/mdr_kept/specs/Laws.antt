@@ -15,7 +15,7 @@ use Rattle.mdr_watched.specs.Watched.{watched, watched_of}
 use Rattle.mdr_kept.specs.Alike.{plainly_finished, spun_outcome}
 use Rattle.mdr_kept.specs.Strict.{strict_of}
 
--- annotations are kept, no interrupt meets user code, no pointer to a dead block is passed, and kernel code calls no user code
+-- annotations are kept, no interrupt meets user code, user code is called back only where kernel code may wait, and no pointer to a dead block is passed
 abbrev pub IsStrict : Program → Plan → Bound → (budget : ℕ) → Type 0
 IsStrict program plan script budget = (strict_of (driver_of program plan) script budget).end ≡ ends.Ok
 

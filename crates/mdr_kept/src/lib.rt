@@ -22,6 +22,6 @@ pub use report_laws::{followed_runs_are_strict, kept_reports_agree, programs_hav
 pub use scope_laws::{bodies_are_scoped, sources_are_scoped};
 pub use source_laws::sources_keep_reports;
 pub use worked::{
-    dead_results_are_alike, left_objects_are_told_apart, locks_are_told_apart,
-    ordinary_runs_are_strict,
+    calls_back_are_told_apart, dead_results_are_alike, left_objects_are_told_apart,
+    locks_are_told_apart, ordinary_runs_are_strict,
 };

@@ -9,8 +9,8 @@ pub fn bodies_are_scoped()
     ensures { BodiesAreScoped }
 {}
 
-/// Where no fault is found in a source, the code of its program names objects of locals only where they live, if it calls
-/// nothing back and its types have numbers of 32 bits.
+/// Where no fault is found in a source, the code of its program names objects of locals only where they live, if its
+/// types, globals, structs and functions are few.
 pub fn sources_are_scoped()
     ensures { SourcesAreScoped }
 {}

@@ -1,8 +1,8 @@
 // Small drivers worked out, each as a function that does nothing.
 
-ghost use Rattle.mdr_kept.specs.Worked.{AreStrict, DeadResultsAreAlike, TellsLeftObjects, TellsLocks};
+ghost use Rattle.mdr_kept.specs.Worked.{AreStrict, DeadResultsAreAlike, TellsCallsBack, TellsLeftObjects, TellsLocks};
 
-/// Runs in which user code touches what pointers lead it to, and makes objects of its locals, are strict.
+/// Runs in which user code touches what pointers lead it to, makes objects of its locals, and is called back are strict.
 pub fn ordinary_runs_are_strict()
     ensures { AreStrict }
 {}
@@ -11,6 +11,12 @@ pub fn ordinary_runs_are_strict()
 /// whatever is printed of them.
 pub fn locks_are_told_apart()
     ensures { TellsLocks }
+{}
+
+/// Kernel code that holds a lock which spins may not call user code back: the strict and the followed run stop there, and
+/// the plain run goes on.
+pub fn calls_back_are_told_apart()
+    ensures { TellsCallsBack }
 {}
 
 /// A function that gives the address of an object of its own, which died, gives a dead pointer, to code of its own half as
