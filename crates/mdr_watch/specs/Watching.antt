@@ -18,16 +18,17 @@ use Rattle.mdr_model.specs.declared.command.Command.TheVariants as command
 use Rattle.mdr_model.specs.declared.memory.Cell.{Cell}
 use Rattle.mdr_meaning.specs.Bodies.{started}
 use Rattle.mdr_meaning.specs.Tree.{Tree}
-use Rattle.mdr_plain.specs.Running.{Setting, Went as AnyWent, interrupts}
+use Rattle.mdr_plain.specs.Running.{Crossing as AnyCrossing, Setting, Went as AnyWent, interrupts}
 use Rattle.mdr_plain.specs.Scripts.{Finish, commands, first_world}
 use Rattle.mdr_plain.specs.World.{World, Ran}
 use Rattle.mdr_viewed.specs.Laws.{kernel_goes, returns}
 use Rattle.mdr_watched.specs.Driver.{Driver, driver_of, entry_roots, is_user, touched_by}
-use Rattle.mdr_watched.specs.Watched.{does_with, downcall, entered, held, in_user, kernel_of, may_not, returns_to, serves}
+use Rattle.mdr_watched.specs.Watched.{calls_back, does_with, downcall, entered, held, in_user, kernel_of, may_not, returns_to, serves}
 use Rattle.mdr_whole.specs.declared.paused.Paused.{Paused}
 use Rattle.mdr_whole.specs.declared.paused.Went.{Went}
 use Rattle.mdr_whole.specs.Pausing.{awaited, went_as}
 use Rattle.mdr_watch.specs.declared.sets.Sets.{Sets}
+use Rattle.mdr_watch.specs.declared.watch.Activation.{Activation}
 use Rattle.mdr_watch.specs.declared.watch.Upcall.{Upcall}
 use Rattle.mdr_watch.specs.declared.watch.Watch.{Watch}
 
@@ -57,6 +58,10 @@ IsNoCall (command.Idle n) = Unit {0}
 IsNoCall (command.Show g) = Unit {0}
 IsNoCall (command.Poke serial index n) = Unit {0}
 IsNoCall (command.Say text) = Unit {0}
+
+-- how code of the kernel half calls back below a function of the user half that runs
+abbrev pub backs_in : Activation → AnyCrossing
+backs_in a = calls_back (driver_in a.upcall.watch) (held (driver_in a.upcall.watch)) a.room
 
 -- the bodies of the user half, and what stands around them in an upcall
 abbrev pub user_side : Upcall → Side
