@@ -4,4 +4,5 @@ mod Turns
 mod Passing
 mod Calls
 mod Runs
+mod Scripted
 pub mod Alone

@@ -1,9 +1,7 @@
 -- protocol
 -- The driver that is watched.
-use Rattle.std.specs.Prelude.{◌≡◌, ◌≤◌, true, false, length, reverse, ℕ, suc, List, [], Some, Result, is_some, slice_get}
+use Rattle.std.specs.Prelude.{◌≡◌, ◌≤◌, true, length, reverse, ℕ, suc, List, [], Some, Result, is_some, slice_get}
 use Rattle.mdr_core.specs.declared.plan.Key.{Key}
-use Rattle.mdr_bound.specs.declared.bound.Bound.{Bound}
-use Rattle.mdr_core.specs.declared.plan.Plan.{Plan}
 use Rattle.mdr_core.specs.declared.program.Func.{Func}
 use Rattle.mdr_core.specs.declared.program.Program.{Program}
 use Rattle.mdr_events.specs.declared.event.Asked.{Asked as Question}
@@ -18,16 +16,16 @@ use Rattle.mdr_model.specs.declared.command.Command.TheVariants as command
 use Rattle.mdr_model.specs.declared.memory.Cell.{Cell}
 use Rattle.mdr_meaning.specs.Bodies.{started}
 use Rattle.mdr_meaning.specs.Tree.{Tree}
-use Rattle.mdr_plain.specs.Running.{Setting, Went as AnyWent, interrupts}
-use Rattle.mdr_plain.specs.Scripts.{Finish, commands, first_world}
+use Rattle.mdr_plain.specs.Running.{Crossing as AnyCrossing, Setting, Went as AnyWent, interrupts}
 use Rattle.mdr_plain.specs.World.{World, Ran}
 use Rattle.mdr_viewed.specs.Laws.{kernel_goes, returns}
-use Rattle.mdr_watched.specs.Driver.{Driver, driver_of, entry_roots, is_user, touched_by}
-use Rattle.mdr_watched.specs.Watched.{does_with, downcall, entered, held, in_user, kernel_of, may_not, returns_to, serves}
+use Rattle.mdr_watched.specs.Driver.{Driver, driver_of, entry_roots, touched_by}
+use Rattle.mdr_watched.specs.Watched.{calls_back, downcall, entered, held, in_user, kernel_of, may_not, returns_to, serves}
 use Rattle.mdr_whole.specs.declared.paused.Paused.{Paused}
 use Rattle.mdr_whole.specs.declared.paused.Went.{Went}
 use Rattle.mdr_whole.specs.Pausing.{awaited, went_as}
 use Rattle.mdr_watch.specs.declared.sets.Sets.{Sets}
+use Rattle.mdr_watch.specs.declared.watch.Activation.{Activation}
 use Rattle.mdr_watch.specs.declared.watch.Upcall.{Upcall}
 use Rattle.mdr_watch.specs.declared.watch.Watch.{Watch}
 
@@ -42,14 +40,6 @@ IsFit w = length w.plan.now.halves ≡ length w.program.now.funcs
 abbrev pub HaveBodies : Program → Type 0
 HaveBodies program = (f : ℕ) (func : Func) → slice_get program.funcs f ≡ Some func → is_some func.body ≡ true
 
--- a command in which no function of the user half is called
-abbrev pub IsKernel : Plan → Command → Type 0
-IsKernel plan (command.Call f args) = is_user plan f ≡ false
-IsKernel plan (command.Idle n) = Unit {0}
-IsKernel plan (command.Show g) = Unit {0}
-IsKernel plan (command.Poke serial index n) = Unit {0}
-IsKernel plan (command.Say text) = Unit {0}
-
 -- a command in which no function is called
 abbrev pub IsNoCall : Command → Type 0
 IsNoCall (command.Call f args) = ⊥
@@ -57,6 +47,10 @@ IsNoCall (command.Idle n) = Unit {0}
 IsNoCall (command.Show g) = Unit {0}
 IsNoCall (command.Poke serial index n) = Unit {0}
 IsNoCall (command.Say text) = Unit {0}
+
+-- how code of the kernel half calls back below a function of the user half that runs
+abbrev pub backs_in : Activation → AnyCrossing
+backs_in a = calls_back (driver_in a.upcall.watch) (held (driver_in a.upcall.watch)) a.room
 
 -- the bodies of the user half, and what stands around them in an upcall
 abbrev pub user_side : Upcall → Side
@@ -103,8 +97,3 @@ entered_in u args set w = entered (driver_in u.watch) (held (driver_in u.watch))
 
 abbrev pub around_user : Upcall → Setting
 around_user u = in_user (driver_in u.watch) (held (driver_in u.watch)) u.func may_not
-
--- the run of a script in which code of the kernel half may call nothing back: where it would the run stops. It is the watched run of a driver that calls nothing back
-unfoldable pub watched_apart : Program → Plan → Bound → (budget : ℕ) → Finish
-watched_apart program plan script budget =
-    commands (does_with (driver_of program plan) (held (driver_of program plan)) may_not) script.commands (first_world (driver_of program plan).kernel.known script budget)

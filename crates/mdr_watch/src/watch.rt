@@ -24,6 +24,15 @@ pub struct Upcall<'a> {
     pub func: u32,
 }
 
+/// A function of the user half runs: with so many functions active before it, and with room for so many upcalls that open
+/// within one another below it.
+#[derive(Clone, Copy)]
+pub(crate) struct Activation<'a> {
+    pub upcall: Upcall<'a>,
+    pub depth: u32,
+    pub room: u32,
+}
+
 /// The code of the kernel half.
 pub fn kernel_code<'a>(watch: Watch<'a>) -> Code<'a>
     requires { IsFit watch }
