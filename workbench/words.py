@@ -245,6 +245,8 @@ HERE = {
     **dict.fromkeys(['KERN_EMERG', 'KERN_ALERT', 'KERN_CRIT', 'KERN_CONT'], 'KERN_ERR, KERN_WARNING, KERN_NOTICE, KERN_INFO or KERN_DEBUG, right before a text'),
     **dict.fromkeys(['IRQF_SHARED', 'IRQF_ONESHOT', 'IRQF_TRIGGER_RISING', 'IRQF_TRIGGER_FALLING'], 'nothing: request_irq(f) takes the handler alone'),
     **dict.fromkeys(['devm_request_irq', 'request_threaded_irq'], 'request_irq(f)'),
+    **dict.fromkeys(['work_struct', 'tasklet_struct', 'INIT_WORK', 'schedule_work', 'queue_work', 'tasklet_schedule'],
+                    'a function that the layer above calls, and that calls user code back by kcall(f, a)'),
     **dict.fromkeys(['memset', 'memcpy', 'memmove', 'strcpy', 'strncpy', 'strscpy'], 'a loop over the elements'),
     **dict.fromkeys(['strlen', 'strcmp', 'strncmp', 'memcmp'], 'a loop over the bytes, with the pointer __nullterm'),
     **dict.fromkeys(['container_of', 'list_entry'], 'a pointer that the struct keeps itself'),
