@@ -1,4 +1,5 @@
 pub mod Watching
 pub mod Guarding
 pub mod Leaving
+pub mod Nesting
 pub mod Going
