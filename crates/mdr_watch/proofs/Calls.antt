@@ -1,6 +1,5 @@
 -- What user code asks for and calls, with its set beside the world.
 use Rattle.std.proofs.Common.{◌≡◌, ℕ, ◌<◌, ◌≤◌, false, true, List, ◌++◌, ◌∷◌, length, Option, Some, Result, Ok, Err, IfOk, refl, sym, ◌∙◌, ap, subst, arith, le_refl}
-use Rattle.std.specs.Prelude.{map}
 use Rattle.mdr_core.specs.declared.place.At.{At}
 use Rattle.mdr_core.specs.declared.plan.Key.{Key}
 use Rattle.mdr_core.specs.declared.program.Program.{Program}
@@ -15,9 +14,8 @@ use Rattle.mdr_mem.specs.Contents.{births_in}
 use Rattle.mdr_meaning.specs.declared.wire.Wire.{Wire}
 use Rattle.mdr_meaning.specs.Sides.{Side}
 use Rattle.mdr_meaning.specs.Tree.{Asked, Tree}
-use Rattle.mdr_meaning.specs.Values.{wire_of}
 use Rattle.mdr_model.specs.declared.memory.Cell.{Cell}
-use Rattle.mdr_model.specs.Memory.{Memory, normal, zero_block}
+use Rattle.mdr_model.specs.Memory.{Memory, zero_block}
 use Rattle.mdr_paths.specs.Paths.{is_in}
 use Rattle.mdr_plain.specs.Running.{KernelCode, all_cells, call, goes, interrupts, nothing}
 use Rattle.mdr_plain.specs.Services.{served}
@@ -31,7 +29,7 @@ use Rattle.mdr_services.specs.declared.answer.Served.{Served}
 use Rattle.mdr_services.specs.declared.answer.Served.TheVariants as served_is
 use Rattle.mdr_services.specs.Serving.{served_as}
 use Rattle.mdr_events.specs.Values.{wires_of}
-use Rattle.mdr_viewed.specs.Laws.{asks, goes_down, kernel_goes, returns}
+use Rattle.mdr_viewed.specs.Laws.{asks, kernel_goes, returns}
 use Rattle.mdr_viewed.specs.Viewed.{IsOlder, IsOrdered, IsWentViewed, after_beside, viewed, viewing_went}
 use Rattle.mdr_viewed.proofs.KernelCode.{kernel_code_is_viewed}
 use Rattle.mdr_viewed.proofs.Steps.{served_beside}
@@ -40,14 +38,13 @@ use Rattle.mdr_watched.specs.Driver.{Driver, touched_by}
 use Rattle.mdr_viewed.proofs.Sets.{sets_are_viewed}
 use Rattle.mdr_watched.specs.Order.{AreLive}
 use Rattle.mdr_watched.specs.Views.{new_cells, taken}
-use Rattle.mdr_watched.specs.Watched.{downcall, held, kernel_of, may_not, sent, serves}
+use Rattle.mdr_watched.specs.Watched.{held, kernel_of, sent, serves}
 use Rattle.mdr_watched.proofs.KeepLaws.{IsKept, served_keeps}
 use Rattle.mdr_whole.specs.declared.ending.Gave.{Gave}
 use Rattle.mdr_whole.specs.declared.ending.Gave.TheVariants as gave_is
 use Rattle.mdr_whole.specs.declared.code.Code.{Code}
 use Rattle.mdr_whole.specs.declared.paused.Went.{Went as Far}
 use Rattle.mdr_whole.specs.declared.paused.Went.TheVariants as far
-use Rattle.mdr_whole.specs.Ending.{gave_as}
 use Rattle.mdr_whole.specs.Going.{driver_code, side_of}
 use Rattle.mdr_whole.specs.Pausing.{goes_in, went_as, went_in}
 use Rattle.mdr_world.specs.Driven.{Driven, driver}
@@ -105,32 +102,9 @@ module _ (d : Driver) (t : ℕ) (set : List Cell) (outer : List (List Cell)) (w 
   pub asked_counts : (r : Ran (List Wire)) (w1 : World) → left r ≡ w1 → r ≡ served d.program asked w → next_serial w ≤ next_serial w1
   asked_counts r w1 at is = subst (λ x. next_serial w ≤ next_serial x) (sym (ap left is) ∙ at) (served_counts d.program asked w)
 
--- ---- calls of the kernel half
-
-module _ (d : Driver) (t : ℕ) (set : List Cell) (outer : List (List Cell)) (w : World) (g : IsGuarded (set ∷ outer) w) (o : IsOrdered w) (at : At) (f : ℕ) (args : List Wire) (depth : ℕ) where
-  downs_is : downcall d (held d) t may_not at f args depth (viewed (set ∷ outer) w) ≡ goes_down d t set outer at f args depth w
-  downs_is = upcalls_are_viewed.downs d t set outer at f args depth w g.upcall g.older o
-
-  pub down_on : (v : Wire) (w1 : World) (r : Ran Wire) → Ended v w1 ≡ call (kernel_of d) nothing f (sent d (held d) t args w) depth w → r ≡ returns d t set outer at f (sent d (held d) t args w) v w1
-      → r ≡ downcall d (held d) t may_not at f args depth (viewed (set ∷ outer) w)
-  down_on v w1 r is back = back ∙ ap (λ x. after_beside (set ∷ outer) x (returns d t set outer at f (sent d (held d) t args w))) is ∙ sym downs_is
-
-  pub down_out : (kind : StopKind) (place : Option At) (w1 : World) → ◌≡◌ {A = Ran Wire} (Stopped kind place w1) (call (kernel_of d) nothing f (sent d (held d) t args w) depth w)
-      → ◌≡◌ {A = Ran Wire} (Stopped kind place (viewed (set ∷ outer) w1)) (downcall d (held d) t may_not at f args depth (viewed (set ∷ outer) w))
-  down_out kind place w1 is = ap (λ x. after_beside (set ∷ outer) x (returns d t set outer at f (sent d (held d) t args w))) is ∙ sym downs_is
-
-  pub down_beside : (r : Ran Wire) (w1 : World) → left r ≡ w1 → r ≡ call (kernel_of d) nothing f (sent d (held d) t args w) depth w → IsGuarded (set ∷ outer) w1
-  down_beside r w1 end is =
-      let b = kernel_code_is_viewed.called d f (sent d (held d) t args w) depth set outer w g.upcall g.older in
-      subst (λ x. IsGuarded (set ∷ outer) x) (sym (ap left is) ∙ end) (record { upcall = b.upcall; older = b.older })
-
 pub served_left : (s : Served) (at : At) (w : World) → left (served_as s at w) ≡ w
 served_left (served_is.Done vs) at w = refl
 served_left (served_is.Stop kind) at w = refl
-
-pub gave_left : (g : Gave) (w : World) → left (gave_as g w) ≡ w
-gave_left (gave_is.Value v) w = refl
-gave_left (gave_is.Stopped kind at) w = refl
 
 -- a set whose cells are older than so many births
 pub older_now : (set : List Cell) (w : World) (n : ℕ) → ((c : Cell) → is_in cells set c ≡ true → c.serial < n) → n ≡ births_in w.lives → IsOlder set w
@@ -183,28 +157,6 @@ module _ (u : Upcall) (w : Driven) (set : List Cell) (outer : List (List Cell)) 
         ap (λ (d : Driven). Stopped kind (Some q.at) d.world) there
         ∙ asked_out (driver_in u.watch) u.func set outer w.world g o (asked_as q) kind (Some q.at) w1.world (sym (ap (λ x. served_as x q.at w1.world) stop) ∙ so_now)
         ∙ ap (serves (driver_in u.watch) (held (driver_in u.watch)) u.func (asked_as q)) world_is
-
-  -- a call of the kernel half
-  module _ (c : Call) (code : KernelCode) (values : List Value) (gv : Gave) (w1 : Driven) (is_kernel : code ≡ kernel_of (driver_in u.watch)) (are_sent : wires_of values ≡ map (normal w.world.memory) (wires_of c.args)) (gave : gave_as gv w1.world ≡ call code nothing c.func (wires_of values) c.depth w.world) where
-    called_now : gave_as gv w1.world ≡ call (kernel_of (driver_in u.watch)) nothing c.func (map (normal w.world.memory) (wires_of c.args)) c.depth w.world
-    called_now = gave ∙ ap (λ x. call x nothing c.func (wires_of values) c.depth w.world) is_kernel ∙ ap (λ x. call (kernel_of (driver_in u.watch)) nothing c.func x c.depth w.world) are_sent
-
-    pub down_stays : IsGuarded (set ∷ outer) w1.world
-    down_stays = down_beside (driver_in u.watch) u.func set outer w.world g o c.at c.func (wires_of c.args) c.depth (gave_as gv w1.world) w1.world (gave_left gv w1.world) called_now
-
-    pub down_goes : (v : Value) (r : Ran Wire) → gv ≡ gave_is.Value v → r ≡ returns (driver_in u.watch) u.func set outer c.at c.func (wires_of values) (wire_of v) w1.world
-        → r ≡ downcall (driver_in u.watch) (held (driver_in u.watch)) u.func may_not c.at c.func (wires_of c.args) c.depth gd.world
-    down_goes v r value back =
-        down_on (driver_in u.watch) u.func set outer w.world g o c.at c.func (wires_of c.args) c.depth (wire_of v) w1.world r (sym (ap (λ x. gave_as x w1.world) value) ∙ called_now)
-        (back ∙ ap (λ x. returns (driver_in u.watch) u.func set outer c.at c.func x (wire_of v) w1.world) are_sent)
-        ∙ ap (downcall (driver_in u.watch) (held (driver_in u.watch)) u.func may_not c.at c.func (wires_of c.args) c.depth) world_is
-
-    pub down_stops : (kind : StopKind) (at : Option At) (r : Driven) → gv ≡ gave_is.Stopped kind at → r ≡ driver w1.program (viewed (set ∷ outer) w1.world)
-        → ◌≡◌ {A = Ran Wire} (Stopped kind at r.world) (downcall (driver_in u.watch) (held (driver_in u.watch)) u.func may_not c.at c.func (wires_of c.args) c.depth gd.world)
-    down_stops kind at r stop there =
-        ap (λ (d : Driven). Stopped kind at d.world) there
-        ∙ down_out (driver_in u.watch) u.func set outer w.world g o c.at c.func (wires_of c.args) c.depth kind at w1.world (sym (ap (λ x. gave_as x w1.world) stop) ∙ called_now)
-        ∙ ap (downcall (driver_in u.watch) (held (driver_in u.watch)) u.func may_not c.at c.func (wires_of c.args) c.depth) world_is
 
 -- ---- code of the kernel half that may call back
 

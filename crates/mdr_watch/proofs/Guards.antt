@@ -30,7 +30,7 @@ use Rattle.mdr_viewed.proofs.Steps.{IsBeside, accesses_are_viewed, beside_kept, 
 use Rattle.mdr_watched.proofs.KeepLaws.{deaths_keep}
 use Rattle.mdr_viewed.proofs.Sets.{sets_are_viewed}
 use Rattle.mdr_watched.specs.Order.{AreLive}
-use Rattle.mdr_watched.specs.Views.{below, living, may_touch, opened}
+use Rattle.mdr_watched.specs.Views.{below, closed, living, may_touch, opened}
 use Rattle.mdr_world.specs.Driven.{Driven, Ticks, driven_accesses, driver, driver_if, open_views}
 use Rattle.mdr_watch.specs.declared.guarded.Closing.{Closing}
 use Rattle.mdr_watch.specs.declared.guarded.Closing.TheVariants as closing
@@ -264,6 +264,13 @@ no_first (x ∷ xs) = refl
 pub none_outside : (xs rest : List (List Cell)) (size : ℕ) → xs ≡ rest ++ [] → rest ≡ take (size - 1) xs → size ≡ 0 → xs ≡ []
 none_outside xs rest size last behind empty = last ∙ append-nil rest ∙ behind ∙ ap (λ n. take (n - 1) xs) empty ∙ no_first xs
 
+-- there is a last one, and the others are around what is left
+pub none_is_some : (outer xs : List (List Cell)) (n : ℕ) → outer ≡ xs → xs ≡ [] → length outer ≡ suc n → ⊥
+none_is_some outer xs n are none some = let h : length outer ≡ 0 = ap length (are ∙ none) in omega (arith, h, some)
+
+pub one_under : (inner last : List Cell) (outer rest : List (List Cell)) → outer ≡ rest ++ last ∷ [] → inner ∷ reverse outer ≡ inner ∷ last ∷ reverse rest
+one_under inner last outer rest split = ap (λ sets. inner ∷ sets) (last_first outer rest last split)
+
 module _ (program : Program) (inner : List Cell) (outer : List (List Cell)) (w : World) (d : Driven) (is : driver program (viewed (inner ∷ reverse outer) w) ≡ d) where
   -- how many there are
   pub one_and : suc (length outer) ≡ length d.world.views
@@ -286,6 +293,16 @@ module _ (program : Program) (inner : List Cell) (outer : List (List Cell)) (w :
   -- the sets that are under it stay older
   pub under_guarded : (rest : List (List Cell)) (last : List Cell) → outer ≡ rest ++ last ∷ [] → IsGuarded (inner ∷ reverse outer) w → IsGuarded (last ∷ reverse rest) w
   under_guarded rest last split g = record { upcall = g.upcall; older = subst (λ sets. AreOlder sets w) (last_first outer rest last split) g.older.1 }
+
+  -- where others are around the innermost it goes in place
+  pub some_outside : (n : ℕ) → length (below d.world.views) ≡ suc n → length outer ≡ suc n
+  some_outside n e = sym (length-map (reverse outer) (living w.memory) ∙ length-reverse outer) ∙ ap (λ (x : Driven). length (below x.world.views)) is ∙ e
+
+  pub popped : (sets : List (List Cell)) → inner ∷ reverse outer ≡ inner ∷ sets → driver program (viewed sets w) ≡ driver d.program (closed d.world)
+  popped sets split = ap (λ xs. driver program (closed (viewed xs w))) (sym split) ∙ ap (λ (x : Driven). driver x.program (closed x.world)) is
+
+  pub popped_guarded : (sets : List (List Cell)) → inner ∷ reverse outer ≡ inner ∷ sets → IsGuarded (inner ∷ reverse outer) w → IsGuarded sets w
+  popped_guarded sets split g = let h : IsGuarded (inner ∷ sets) w = subst (λ xs. IsGuarded xs w) split g in record { upcall = h.upcall; older = h.older.1 }
 
   pub left_all : (d' : Driven) → d' ≡ driver program (record w { views = open_views false }) → d' ≡ driver d.program (with_views [] d.world)
   left_all d' gone = gone ∙ ap (λ (x : Driven). driver x.program (with_views [] x.world)) is

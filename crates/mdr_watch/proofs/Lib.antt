@@ -1,8 +1,9 @@
 mod Sides
 mod Guards
 mod Turns
+mod Below
+mod Nested
 mod Passing
 mod Calls
-mod Runs
 mod Scripted
 pub mod Alone

@@ -1,5 +1,5 @@
 -- A machine that runs user code goes from event to event.
-use Rattle.std.proofs.Common.{◌≡◌, ℕ, ◌+◌, ◌≤◌, Bool, true, false, List, [], ◌∷◌, Option, Some, slice_get, refl, sym, ◌∙◌, ap, subst, le_refl, arith}
+use Rattle.std.proofs.Common.{◌≡◌, ℕ, ◌+◌, ◌≤◌, Bool, true, false, List, [], ◌∷◌, Option, Some, refl, sym, ◌∙◌, ap, subst, le_refl, arith}
 use Rattle.mdr_core.specs.declared.place.At.{At}
 use Rattle.mdr_core.specs.declared.plan.Half.{Half}
 use Rattle.mdr_core.specs.declared.program.Program.{Program}
@@ -43,7 +43,6 @@ use Rattle.mdr_services.specs.Serving.{served_as}
 use Rattle.mdr_viewed.proofs.Ticks.{user_code_keeps_ticks}
 use Rattle.mdr_watched.specs.Driver.{touched_by}
 use Rattle.mdr_watched.specs.Views.{gained, may_touch}
-use Rattle.mdr_watched.specs.Watched.{may_not}
 use Rattle.mdr_world.specs.Driven.{Driven, Ticks}
 use Rattle.mdr_world.proofs.WalkLaws.{drivers_walk}
 use Rattle.mdr_whole.specs.declared.ending.Gave.{Gave}
@@ -52,10 +51,11 @@ use Rattle.mdr_watch.specs.declared.next.Next.{Next}
 use Rattle.mdr_watch.specs.declared.next.Next.TheVariants as next
 use Rattle.mdr_whole.specs.Ending.{gave_as}
 use Rattle.mdr_whole.specs.Going.{Counted}
+use Rattle.mdr_watch.specs.declared.watch.Activation.{Activation}
 use Rattle.mdr_watch.specs.declared.watch.Upcall.{Upcall}
 use Rattle.mdr_watch.specs.Going.{Began, GoesOn, GoesOnWith, IsStarted, NextAt, Passed, StandsAt, held_in, program_in, user_does}
 use Rattle.mdr_watch.specs.Guarding.{guarded_accesses}
-use Rattle.mdr_watch.specs.Watching.{IsFit, around_user, driver_in, user_side}
+use Rattle.mdr_watch.specs.Watching.{IsFit, around_user, backs_in, driver_in, user_side}
 use Rattle.mdr_watch.proofs.Sides.{user_is}
 
 abbrev world_in : Driven → World
@@ -80,12 +80,12 @@ unfolding held_of
 ran_user u fit halves are m m' d d' ticks e left ran =
     subst (λ s. RanTo guarded_accesses s (held_in u m) d ticks e (held_in u m') d' left) (ap (λ hs. side_in which.User hs (program_in u)) are ∙ user_is (program_in u) u.watch.plan.now fit) ran
 
-module _ (u : Upcall) where
+module _ (a : Activation) where
   abbrev prog : Program
-  prog = program_in u
+  prog = program_in a.upcall
 
-  keeps : KeepsTicks (around_user u)
-  keeps = user_code_keeps_ticks.user (driver_in u.watch) u.func may_not user_code_keeps_ticks.may_not
+  pub keeps : KeepsTicks (around_user a)
+  keeps = user_code_keeps_ticks.user (driver_in a.upcall.watch) a.upcall.func (backs_in a) (user_code_keeps_ticks.back (driver_in a.upcall.watch) a.room)
 
   seen : IsSeenBy (accesses prog may_touch) guarded_accesses world_in program_of prog
   seen = record {
@@ -96,15 +96,15 @@ module _ (u : Upcall) where
 
   -- ---- runs
 
-  pub began : (m m' : Machine) (d d' : Driven) (e : Event) (rest : ℕ) → d.program ≡ prog → IsReady (held_in u m) → RanTo guarded_accesses (user_side u) (held_in u m) d 0 e (held_in u m') d' rest → Began u m d m' e d'
+  pub began : (m m' : Machine) (d d' : Driven) (e : Event) (rest : ℕ) → d.program ≡ prog → IsReady (held_in a.upcall m) → RanTo guarded_accesses (user_side a.upcall) (held_in a.upcall m) d 0 e (held_in a.upcall m') d' rest → Began a m d m' e d'
   began m m' d d' e rest same ready ran = λ fuel enough.
-      let w = run_stands (around_user u) nothing keeps nothing_gives guarded_accesses world_in program_of prog seen (user_side u) (held_in u m) (held_in u m') d d' e rest fuel same enough ran in
-      record { stands = w.stands; same = w.same; left = ran_leaves guarded_accesses (user_side u) (held_in u m) (held_in u m') d d' 0 e rest ready ran }
+      let w = run_stands (around_user a) nothing keeps nothing_gives guarded_accesses world_in program_of prog seen (user_side a.upcall) (held_in a.upcall m) (held_in a.upcall m') d d' e rest fuel same enough ran in
+      record { stands = w.stands; same = w.same; left = ran_leaves guarded_accesses (user_side a.upcall) (held_in a.upcall m) (held_in a.upcall m') d d' 0 e rest ready ran }
 
-  pub passed : (m m' : Machine) (d d' : Driven) (e : Event) (rest : ℕ) → d.program ≡ prog → IsReady (held_in u m) → RanTo guarded_accesses (user_side u) (held_in u m) d 1 e (held_in u m') d' rest → Passed u m d m' e d'
+  pub passed : (m m' : Machine) (d d' : Driven) (e : Event) (rest : ℕ) → d.program ≡ prog → IsReady (held_in a.upcall m) → RanTo guarded_accesses (user_side a.upcall) (held_in a.upcall m) d 1 e (held_in a.upcall m') d' rest → Passed a m d m' e d'
   passed m m' d d' e rest same ready ran = λ fuel all at w s n.
-      let x = tick_stands (around_user u) nothing keeps nothing_gives guarded_accesses world_in program_of prog seen (user_side u) (held_in u m) (held_in u m') at w w d d' e rest fuel n.left all same s refl n.one n.counted ran in
-      record { stands = x.stands; same = x.same; left = ran_leaves guarded_accesses (user_side u) (held_in u m) (held_in u m') d d' 1 e rest ready ran }
+      let x = tick_stands (around_user a) nothing keeps nothing_gives guarded_accesses world_in program_of prog seen (user_side a.upcall) (held_in a.upcall m) (held_in a.upcall m') at w w d d' e rest fuel n.left all same s refl n.one n.counted ran in
+      record { stands = x.stands; same = x.same; left = ran_leaves guarded_accesses (user_side a.upcall) (held_in a.upcall m) (held_in a.upcall m') d d' 1 e rest ready ran }
 
   -- ---- a tick
 
@@ -115,108 +115,108 @@ module _ (u : Upcall) where
   tick_keeps true d d' t = ap program_of t.2
   tick_keeps false d d' t = ap program_of t.1
 
-  pub ticked_on : (at : At) (m m' : Machine) (d d1 d' : Driven) (e : Event) (t : Bool) → t ≡ true → Ticks t d d1 → Passed u m d1 m' e d' → GoesOn u m (event.TicksOut at) d m' (next.Came e) d'
+  pub ticked_on : (at : At) (m m' : Machine) (d d1 d' : Driven) (e : Event) (t : Bool) → t ≡ true → Ticks t d d1 → Passed a m d1 m' e d' → GoesOn a m (event.TicksOut at) d m' (next.Came e) d'
   ticked_on at m m' d d1 d' e true h ticks p = λ fuel all s. p fuel all at d.world s.stands (tick_counted d d1 ticks)
   ticked_on at m m' d d1 d' e false h ticks p = absurd (cc h)
 
-  pub ticked_out : (at : At) (m m' : Machine) (d d1 : Driven) (t : Bool) → t ≡ false → Ticks t d d1 → GoesOn u m (event.TicksOut at) d m' (next.Gave (gave.Stopped stop.Ticks (Some at))) d1
+  pub ticked_out : (at : At) (m m' : Machine) (d d1 : Driven) (t : Bool) → t ≡ false → Ticks t d d1 → GoesOn a m (event.TicksOut at) d m' (next.Gave (gave.Stopped stop.Ticks (Some at))) d1
   ticked_out at m m' d d1 false h ticks = λ fuel all s. (
-    ap (λ w. Stopped stop.Ticks (Some at) w) (ap world_in ticks.1) ∙ budget_ends (around_user u) (user_side u) nothing fuel all (held_in u m) at d.world d.world s.stands refl ticks.0,
+    ap (λ w. Stopped stop.Ticks (Some at) w) (ap world_in ticks.1) ∙ budget_ends (around_user a) (user_side a.upcall) nothing fuel all (held_in a.upcall m) at d.world d.world s.stands refl ticks.0,
     ap program_of ticks.1 ∙ s.same,
   )
   ticked_out at m m' d d1 true h ticks = absurd (cc h)
 
   -- ---- answers
 
-  pub resumed : (results : List Wire) (m m1 m' : Machine) (d d' : Driven) (e : Event) → ((f r : ℕ) → tree (user_side u) f (held_in u m1) r ≡ child (tree (user_side u) f (held_in u m) r) results)
-      → Began u m1 d m' e d' → GoesOnWith u results m d m' (next.Came e) d'
+  pub resumed : (results : List Wire) (m m1 m' : Machine) (d d' : Driven) (e : Event) → ((f r : ℕ) → tree (user_side a.upcall) f (held_in a.upcall m1) r ≡ child (tree (user_side a.upcall) f (held_in a.upcall m) r) results)
+      → Began a m1 d m' e d' → GoesOnWith a results m d m' (next.Came e) d'
   resumed results m m1 m' d d' e answer b = λ fuel all w.
-      subst (λ x. StandsAt u fuel x m' e d') (ap (λ t. run (around_user u) nothing t d.world) (answer fuel fuel) ∙ w.is) (b fuel w.enough)
+      subst (λ x. StandsAt a fuel x m' e d') (ap (λ t. run (around_user a) nothing t d.world) (answer fuel fuel) ∙ w.is) (b fuel w.enough)
 
   module _ (m : Machine) (d : Driven) where
-    pub served_on : (q : Question) (s : Served) (results : List Value) (d1 d' : Driven) (m' : Machine) (n : Next) → s ≡ served_is.Done results → served_as s q.at d1.world ≡ (around_user u).serves (asked_as q) d.world
-        → GoesOnWith u (wires_of results) m d1 m' n d' → GoesOn u m (event.Service q) d m' n d'
+    pub served_on : (q : Question) (s : Served) (results : List Value) (d1 d' : Driven) (m' : Machine) (n : Next) → s ≡ served_is.Done results → served_as s q.at d1.world ≡ (around_user a).serves (asked_as q) d.world
+        → GoesOnWith a (wires_of results) m d1 m' n d' → GoesOn a m (event.Service q) d m' n d'
     served_on q s results d1 d' m' n is so g = λ fuel all x.
-        let ended : Ended (wires_of results) d1.world ≡ (around_user u).serves (asked_as q) d.world = sym (ap (λ y. served_as y q.at d1.world) is) ∙ so in
+        let ended : Ended (wires_of results) d1.world ≡ (around_user a).serves (asked_as q) d.world = sym (ap (λ y. served_as y q.at d1.world) is) ∙ so in
         g fuel all (record {
-          is = ap (λ r. after r (answered_in (around_user u) (user_side u) nothing fuel (held_in u m))) ended ∙ x.stands.is;
+          is = ap (λ r. after r (answered_in (around_user a) (user_side a.upcall) nothing fuel (held_in a.upcall m))) ended ∙ x.stands.is;
           enough = at_most fuel d.world _ d1.world (ap left (sym ended)) (keeps.serves (asked_as q) d.world) x.stands.enough;
         })
 
     -- as many answers as it asks for
-    pub takes_served : (q : Question) (s : Served) (results : List Value) (d1 : Driven) → s ≡ served_is.Done results → served_as s q.at d1.world ≡ (around_user u).serves (asked_as q) d.world
-        → LeavesAt (event.Service q) (held_in u m) → Takes prog m results
+    pub takes_served : (q : Question) (s : Served) (results : List Value) (d1 : Driven) → s ≡ served_is.Done results → served_as s q.at d1.world ≡ (around_user a).serves (asked_as q) d.world
+        → LeavesAt (event.Service q) (held_in a.upcall m) → Takes prog m results
     takes_served q s results d1 is so o =
         takes_all prog m (asked_as q) results o
-        (as_many_behind prog (asked_as q) d.world d1.world (gained prog (touched_by u.watch.plan.now u.func) (next_serial d.world)) results (sym (ap (λ y. served_as y q.at d1.world) is) ∙ so))
+        (as_many_behind prog (asked_as q) d.world d1.world (gained prog (touched_by a.upcall.watch.plan.now a.upcall.func) (next_serial d.world)) results (sym (ap (λ y. served_as y q.at d1.world) is) ∙ so))
 
-    pub served_out : (q : Question) (s : Served) (kind : StopKind) (d1 : Driven) (m' : Machine) → s ≡ served_is.Stop kind → d1.program ≡ prog → served_as s q.at d1.world ≡ (around_user u).serves (asked_as q) d.world
-        → GoesOn u m (event.Service q) d m' (next.Gave (gave.Stopped kind (Some q.at))) d1
+    pub served_out : (q : Question) (s : Served) (kind : StopKind) (d1 : Driven) (m' : Machine) → s ≡ served_is.Stop kind → d1.program ≡ prog → served_as s q.at d1.world ≡ (around_user a).serves (asked_as q) d.world
+        → GoesOn a m (event.Service q) d m' (next.Gave (gave.Stopped kind (Some q.at))) d1
     served_out q s kind d1 m' is kept so = λ fuel all x.
-        (service_ends (around_user u) (user_side u) nothing fuel all (held_in u m) q kind (Some q.at) d.world d1.world x.stands (sym (ap (λ y. served_as y q.at d1.world) is) ∙ so), kept)
+        (service_ends (around_user a) (user_side a.upcall) nothing fuel all (held_in a.upcall m) q kind (Some q.at) d.world d1.world x.stands (sym (ap (λ y. served_as y q.at d1.world) is) ∙ so), kept)
 
-    pub crossed_on : (c : Call) (g : Gave) (v : Value) (d1 d' : Driven) (m' : Machine) (n : Next) → g ≡ gave.Value v → gave_as g d1.world ≡ (around_user u).crosses c.at c.func (wires_of c.args) c.depth d.world
-        → GoesOnWith u (wires_of (v ∷ [])) m d1 m' n d' → GoesOn u m (event.Cross c) d m' n d'
+    pub crossed_on : (c : Call) (g : Gave) (v : Value) (d1 d' : Driven) (m' : Machine) (n : Next) → g ≡ gave.Value v → gave_as g d1.world ≡ (around_user a).crosses c.at c.func (wires_of c.args) c.depth d.world
+        → GoesOnWith a (wires_of (v ∷ [])) m d1 m' n d' → GoesOn a m (event.Cross c) d m' n d'
     crossed_on c g v d1 d' m' n is so go = λ fuel all x.
-        let ended : Ended (wire_of v) d1.world ≡ (around_user u).crosses c.at c.func (wires_of c.args) c.depth d.world = sym (ap (λ y. gave_as y d1.world) is) ∙ so in
+        let ended : Ended (wire_of v) d1.world ≡ (around_user a).crosses c.at c.func (wires_of c.args) c.depth d.world = sym (ap (λ y. gave_as y d1.world) is) ∙ so in
         go fuel all (record {
-          is = ap (λ r. after r (λ x w. answered_in (around_user u) (user_side u) nothing fuel (held_in u m) (x ∷ []) w)) ended ∙ x.stands.is;
+          is = ap (λ r. after r (λ x w. answered_in (around_user a) (user_side a.upcall) nothing fuel (held_in a.upcall m) (x ∷ []) w)) ended ∙ x.stands.is;
           enough = at_most fuel d.world _ d1.world (ap left (sym ended)) (keeps.crosses c.at c.func (wires_of c.args) c.depth d.world) x.stands.enough;
         })
 
     pub crossed_out : (c : Call) (g : Gave) (kind : StopKind) (at : Option At) (d1 : Driven) (m' : Machine) → g ≡ gave.Stopped kind at → d1.program ≡ prog
-        → gave_as g d1.world ≡ (around_user u).crosses c.at c.func (wires_of c.args) c.depth d.world → GoesOn u m (event.Cross c) d m' (next.Gave (gave.Stopped kind at)) d1
+        → gave_as g d1.world ≡ (around_user a).crosses c.at c.func (wires_of c.args) c.depth d.world → GoesOn a m (event.Cross c) d m' (next.Gave (gave.Stopped kind at)) d1
     crossed_out c g kind at d1 m' is kept so = λ fuel all x.
-        (crossing_ends (around_user u) (user_side u) nothing fuel all (held_in u m) c kind at d.world d1.world x.stands (sym (ap (λ y. gave_as y d1.world) is) ∙ so), kept)
+        (crossing_ends (around_user a) (user_side a.upcall) nothing fuel all (held_in a.upcall m) c kind at d.world d1.world x.stands (sym (ap (λ y. gave_as y d1.world) is) ∙ so), kept)
 
   -- ---- an event
 
   module _ (m : Machine) (e : Event) (d : Driven) where
-    pub done_out : (v v' : Value) → e ≡ event.Done v → wire_of v' ≡ normal d.world.memory (wire_of v) → GoesOn u m e d m (next.Gave (gave.Value v')) d
+    pub done_out : (v v' : Value) → e ≡ event.Done v → wire_of v' ≡ normal d.world.memory (wire_of v) → GoesOn a m e d m (next.Gave (gave.Value v')) d
     done_out v v' is now = λ fuel all s.
-        (value_ends (around_user u) (user_side u) nothing fuel all (held_in u m) v v' d.world (subst (λ x. StandsIn (around_user u) (user_side u) nothing fuel all (held_in u m) x d.world) is s.stands) now, s.same)
+        (value_ends (around_user a) (user_side a.upcall) nothing fuel all (held_in a.upcall m) v v' d.world (subst (λ x. StandsIn (around_user a) (user_side a.upcall) nothing fuel all (held_in a.upcall m) x d.world) is s.stands) now, s.same)
 
-    pub stopped_out : (kind : StopKind) (at : At) → e ≡ event.Stop kind at → GoesOn u m e d m (next.Gave (gave.Stopped kind (Some at))) d
+    pub stopped_out : (kind : StopKind) (at : At) → e ≡ event.Stop kind at → GoesOn a m e d m (next.Gave (gave.Stopped kind (Some at))) d
     stopped_out kind at is = λ fuel all s.
-        (stop_ends (around_user u) (user_side u) nothing fuel all (held_in u m) kind at d.world (subst (λ x. StandsIn (around_user u) (user_side u) nothing fuel all (held_in u m) x d.world) is s.stands), s.same)
+        (stop_ends (around_user a) (user_side a.upcall) nothing fuel all (held_in a.upcall m) kind at d.world (subst (λ x. StandsIn (around_user a) (user_side a.upcall) nothing fuel all (held_in a.upcall m) x d.world) is s.stands), s.same)
 
-    pub goes_on_at : (e' : Event) (m' : Machine) (n : Next) (d' : Driven) → e ≡ e' → GoesOn u m e' d m' n d' → GoesOn u m e d m' n d'
-    goes_on_at e' m' n d' is g = subst (λ x. GoesOn u m x d m' n d') (sym is) g
+    pub goes_on_at : (e' : Event) (m' : Machine) (n : Next) (d' : Driven) → e ≡ e' → GoesOn a m e' d m' n d' → GoesOn a m e d m' n d'
+    goes_on_at e' m' n d' is g = subst (λ x. GoesOn a m x d m' n d') (sym is) g
 
 -- ---- a machine's run
 
 -- a machine under way: all that it does is what it did at first
-pub record UnderWay (u : Upcall) (m0 : Machine) (d0 : Driven) (m : Machine) (e : Event) (d : Driven) : Type 0 where
-  pub at : StandsAt u d0.world.clock.rest (user_does u d0.world.clock.rest m0 d0.world) m e d
+pub record UnderWay (a : Activation) (m0 : Machine) (d0 : Driven) (m : Machine) (e : Event) (d : Driven) : Type 0 where
+  pub at : StandsAt a d0.world.clock.rest (user_does a d0.world.clock.rest m0 d0.world) m e d
 
-module _ (u : Upcall) (m0 : Machine) (d0 : Driven) where
+module _ (a : Activation) (m0 : Machine) (d0 : Driven) where
   abbrev all : Ran Wire
-  all = user_does u d0.world.clock.rest m0 d0.world
+  all = user_does a d0.world.clock.rest m0 d0.world
 
-  pub way_begins : (m : Machine) (e : Event) (d : Driven) → Began u m0 d0 m e d → UnderWay u m0 d0 m e d
+  pub way_begins : (m : Machine) (e : Event) (d : Driven) → Began a m0 d0 m e d → UnderWay a m0 d0 m e d
   way_begins m e d b = record { at = b d0.world.clock.rest (le_refl d0.world.clock.rest) }
 
-  next_at : (m m' : Machine) (e : Event) (d d' : Driven) (n : Next) → UnderWay u m0 d0 m e d → GoesOn u m e d m' n d' → NextAt u d0.world.clock.rest all m' n d'
+  next_at : (m m' : Machine) (e : Event) (d d' : Driven) (n : Next) → UnderWay a m0 d0 m e d → GoesOn a m e d m' n d' → NextAt a d0.world.clock.rest all m' n d'
   next_at m m' e d d' n way g = g d0.world.clock.rest _ way.at
 
-  pub way_goes : (m m' : Machine) (e e' : Event) (d d' : Driven) (n : Next) → n ≡ next.Came e' → UnderWay u m0 d0 m e d → GoesOn u m e d m' n d' → UnderWay u m0 d0 m' e' d'
-  way_goes m m' e e' d d' n is way g = record { at = subst (λ x. NextAt u d0.world.clock.rest all m' x d') is (next_at m m' e d d' n way g) }
+  pub way_goes : (m m' : Machine) (e e' : Event) (d d' : Driven) (n : Next) → n ≡ next.Came e' → UnderWay a m0 d0 m e d → GoesOn a m e d m' n d' → UnderWay a m0 d0 m' e' d'
+  way_goes m m' e e' d d' n is way g = record { at = subst (λ x. NextAt a d0.world.clock.rest all m' x d') is (next_at m m' e d d' n way g) }
 
-  way_ends : (m m' : Machine) (e : Event) (d d' : Driven) (n : Next) (g : Gave) → n ≡ next.Gave g → UnderWay u m0 d0 m e d → GoesOn u m e d m' n d' → NextAt u d0.world.clock.rest all m' (next.Gave g) d'
-  way_ends m m' e d d' n g is way x = subst (λ y. NextAt u d0.world.clock.rest all m' y d') is (next_at m m' e d d' n way x)
+  way_ends : (m m' : Machine) (e : Event) (d d' : Driven) (n : Next) (g : Gave) → n ≡ next.Gave g → UnderWay a m0 d0 m e d → GoesOn a m e d m' n d' → NextAt a d0.world.clock.rest all m' (next.Gave g) d'
+  way_ends m m' e d d' n g is way x = subst (λ y. NextAt a d0.world.clock.rest all m' y d') is (next_at m m' e d d' n way x)
 
-  pub way_gives : (m m' : Machine) (e : Event) (d d' : Driven) (n : Next) (g : Gave) → n ≡ next.Gave g → UnderWay u m0 d0 m e d → GoesOn u m e d m' n d' → gave_as g d'.world ≡ all
+  pub way_gives : (m m' : Machine) (e : Event) (d d' : Driven) (n : Next) (g : Gave) → n ≡ next.Gave g → UnderWay a m0 d0 m e d → GoesOn a m e d m' n d' → gave_as g d'.world ≡ all
   way_gives m m' e d d' n g is way x = (way_ends m m' e d d' n g is way x).0
 
-  pub way_keeps : (m m' : Machine) (e : Event) (d d' : Driven) (n : Next) (g : Gave) → n ≡ next.Gave g → UnderWay u m0 d0 m e d → GoesOn u m e d m' n d' → d'.program ≡ program_in u
+  pub way_keeps : (m m' : Machine) (e : Event) (d d' : Driven) (n : Next) (g : Gave) → n ≡ next.Gave g → UnderWay a m0 d0 m e d → GoesOn a m e d m' n d' → d'.program ≡ program_in a.upcall
   way_keeps m m' e d d' n g is way x = (way_ends m m' e d d' n g is way x).1
 
 -- ---- a function is started
 
-pub is_started : (u : Upcall) (args : List Wire) (m0 m : Machine) → ((f r : ℕ) → tree (user_side u) f (held_in u m0) r ≡ Tree.Idle) → (user_side u).own u.func ≡ body_of (program_in u) u.func
-    → ((side : Side) → side.own u.func ≡ body_of (program_in u) u.func → (f r : ℕ) → r ≤ f → tree side f (held_in u m) r ≡ cut r (started side (f + 1) u.func args 0 (tree side f (held_in u m0) r)))
-    → IsReady (held_in u m) → IsStarted u args m
-is_started u args m0 m none own is ready = record {
-  by = λ f r less. is (user_side u) own f r less ∙ ap (λ t. cut r (started (user_side u) (f + 1) u.func args 0 t)) (none f r);
+pub is_started : (a : Activation) (args : List Wire) (m0 m : Machine) → ((f r : ℕ) → tree (user_side a.upcall) f (held_in a.upcall m0) r ≡ Tree.Idle) → (user_side a.upcall).own a.upcall.func ≡ body_of (program_in a.upcall) a.upcall.func
+    → ((side : Side) → side.own a.upcall.func ≡ body_of (program_in a.upcall) a.upcall.func → (f r : ℕ) → r ≤ f → tree side f (held_in a.upcall m) r ≡ cut r (started side (f + 1) a.upcall.func args a.depth (tree side f (held_in a.upcall m0) r)))
+    → IsReady (held_in a.upcall m) → IsStarted a args m
+is_started a args m0 m none own is ready = record {
+  by = λ f r less. is (user_side a.upcall) own f r less ∙ ap (λ t. cut r (started (user_side a.upcall) (f + 1) a.upcall.func args a.depth t)) (none f r);
   ready = ready;
 }

@@ -22,6 +22,7 @@ use Rattle.mdr_watch.specs.declared.next.Next.{Next}
 use Rattle.mdr_watch.specs.declared.next.Next.TheVariants as next
 use Rattle.mdr_whole.specs.Ending.{gave_as}
 use Rattle.mdr_whole.specs.Going.{Counted}
+use Rattle.mdr_watch.specs.declared.watch.Activation.{Activation}
 use Rattle.mdr_watch.specs.declared.watch.Upcall.{Upcall}
 use Rattle.mdr_watch.specs.Guarding.{guarded_accesses}
 use Rattle.mdr_watch.specs.Watching.{around_user, user_side}
@@ -34,49 +35,49 @@ abbrev pub held_in : Upcall → Machine → Held
 held_in u machine = held_of (program_in u) machine
 
 -- what the user code that a machine holds does in a world, with fuel for so many ticks
-abbrev pub user_does : Upcall → (fuel : ℕ) → Machine → World → Ran Wire
-user_does u fuel machine w = goes_on_in (around_user u) (user_side u) nothing fuel (held_in u machine) w
+abbrev pub user_does : Activation → (fuel : ℕ) → Machine → World → Ran Wire
+user_does a fuel machine w = goes_on_in (around_user a) (user_side a.upcall) nothing fuel (held_in a.upcall machine) w
 
 -- with so many ticks it came to an event
 abbrev pub RanIn : Upcall → Machine → Driven → (ticks : ℕ) → Event → Machine → Driven → Type 0
 RanIn u machine d ticks e machine' d' =
     RanTo guarded_accesses (user_side u) (held_in u machine) d ticks e (held_in u machine') d' (ticks - machine'.used)
 
--- the function of the upcall was started in a machine that held nothing
-pub record IsStarted (u : Upcall) (args : List Wire) (machine : Machine) : Type 0 where
-  pub by : (f r : ℕ) → r ≤ f → tree (user_side u) f (held_in u machine) r ≡ cut r (started (user_side u) (f + 1) u.func args 0 Tree.Idle)
-  pub ready : IsReady (held_in u machine)
+-- its function was started in a machine that held nothing
+pub record IsStarted (a : Activation) (args : List Wire) (machine : Machine) : Type 0 where
+  pub by : (f r : ℕ) → r ≤ f → tree (user_side a.upcall) f (held_in a.upcall machine) r ≡ cut r (started (user_side a.upcall) (f + 1) a.upcall.func args a.depth Tree.Idle)
+  pub ready : IsReady (held_in a.upcall machine)
 
 -- a machine came to an event in an upcall: what follows is what all of it does, and it goes on by itself or waits for the answers
-pub record StandsAt (u : Upcall) (fuel : ℕ) (all : Ran Wire) (machine : Machine) (e : Event) (d : Driven) : Type 0 where
-  pub stands : StandsIn (around_user u) (user_side u) nothing fuel all (held_in u machine) e d.world
-  pub same : d.program ≡ program_in u
-  pub left : LeavesAt e (held_in u machine)
+pub record StandsAt (a : Activation) (fuel : ℕ) (all : Ran Wire) (machine : Machine) (e : Event) (d : Driven) : Type 0 where
+  pub stands : StandsIn (around_user a) (user_side a.upcall) nothing fuel all (held_in a.upcall machine) e d.world
+  pub same : d.program ≡ program_in a.upcall
+  pub left : LeavesAt e (held_in a.upcall machine)
 
 -- it came to the next event, or it gave what all of it gives
-abbrev pub NextAt : (u : Upcall) (fuel : ℕ) (all : Ran Wire) (machine : Machine) (n : Next) (d : Driven) → Type 0
-NextAt u fuel all machine (next.Came e) d = StandsAt u fuel all machine e d
-NextAt u fuel all machine (next.Gave g) d = (gave_as g d.world ≡ all) × (d.program ≡ program_in u)
+abbrev pub NextAt : (a : Activation) (fuel : ℕ) (all : Ran Wire) (machine : Machine) (n : Next) (d : Driven) → Type 0
+NextAt a fuel all machine (next.Came e) d = StandsAt a fuel all machine e d
+NextAt a fuel all machine (next.Gave g) d = (gave_as g d.world ≡ all) × (d.program ≡ program_in a.upcall)
 
 -- it ran without a tick
-abbrev pub Began : Upcall → Machine → Driven → Machine → Event → Driven → Type 0
-Began u machine d machine' e d' = (fuel : ℕ) → d.world.clock.rest ≤ fuel → StandsAt u fuel (user_does u fuel machine d.world) machine' e d'
+abbrev pub Began : Activation → Machine → Driven → Machine → Event → Driven → Type 0
+Began a machine d machine' e d' = (fuel : ℕ) → d.world.clock.rest ≤ fuel → StandsAt a fuel (user_does a fuel machine d.world) machine' e d'
 
 -- it ran with the tick that was wanted and counted
-abbrev pub Passed : Upcall → Machine → Driven → Machine → Event → Driven → Type 0
-Passed u machine d machine' e d' =
+abbrev pub Passed : Activation → Machine → Driven → Machine → Event → Driven → Type 0
+Passed a machine d machine' e d' =
     (fuel : ℕ) (all : Ran Wire) (at : At) (w : World)
-    → StandsIn (around_user u) (user_side u) nothing fuel all (held_in u machine) (event.TicksOut at) w → Counted w d.world → StandsAt u fuel all machine' e d'
+    → StandsIn (around_user a) (user_side a.upcall) nothing fuel all (held_in a.upcall machine) (event.TicksOut at) w → Counted w d.world → StandsAt a fuel all machine' e d'
 
 -- what follows an event
-abbrev pub GoesOn : Upcall → Machine → Event → Driven → Machine → Next → Driven → Type 0
-GoesOn u machine e d machine' n d' = (fuel : ℕ) (all : Ran Wire) → StandsAt u fuel all machine e d → NextAt u fuel all machine' n d'
+abbrev pub GoesOn : Activation → Machine → Event → Driven → Machine → Next → Driven → Type 0
+GoesOn a machine e d machine' n d' = (fuel : ℕ) (all : Ran Wire) → StandsAt a fuel all machine e d → NextAt a fuel all machine' n d'
 
 -- what follows these answers of the question that is open is what all of it does
-pub record Waits (u : Upcall) (fuel : ℕ) (all : Ran Wire) (machine : Machine) (results : List Wire) (w : World) : Type 0 where
-  pub is : answered_in (around_user u) (user_side u) nothing fuel (held_in u machine) results w ≡ all
+pub record Waits (a : Activation) (fuel : ℕ) (all : Ran Wire) (machine : Machine) (results : List Wire) (w : World) : Type 0 where
+  pub is : answered_in (around_user a) (user_side a.upcall) nothing fuel (held_in a.upcall machine) results w ≡ all
   pub enough : w.clock.rest ≤ fuel
 
 -- it is answered
-abbrev pub GoesOnWith : Upcall → List Wire → Machine → Driven → Machine → Next → Driven → Type 0
-GoesOnWith u results machine d machine' n d' = (fuel : ℕ) (all : Ran Wire) → Waits u fuel all machine results d.world → NextAt u fuel all machine' n d'
+abbrev pub GoesOnWith : Activation → List Wire → Machine → Driven → Machine → Next → Driven → Type 0
+GoesOnWith a results machine d machine' n d' = (fuel : ℕ) (all : Ran Wire) → Waits a fuel all machine results d.world → NextAt a fuel all machine' n d'

@@ -6,7 +6,7 @@ use Rattle.mdr_meaning.specs.Values.{wire_of}
 use Rattle.mdr_model.specs.declared.memory.Cell.{Cell}
 use Rattle.mdr_plain.specs.Scripts.{Finish}
 use Rattle.mdr_plain.specs.World.{World, Ran, Ended, Stopped, Work, done}
-use Rattle.mdr_watched.specs.Views.{closed}
+use Rattle.mdr_watched.specs.Views.{below, closed}
 use Rattle.mdr_world.specs.Driven.{Driven, driver}
 use Rattle.mdr_whole.specs.declared.ending.Gave.{Gave}
 use Rattle.mdr_whole.specs.declared.ending.Gave.TheVariants as gave
@@ -30,10 +30,14 @@ abbrev pub IsClosed : Driven → Closing → Type 0
 IsClosed d (closing.Last w) = (w ≡ driver d.program (closed d.world)) × (w.world.views ≡ [])
 IsClosed d (closing.Under g) = (g ≡ driver d.program (closed d.world)) × (n : ℕ) × (length d.world.views ≡ suc (suc n))
 
--- where a call gave a value one upcall is open
+-- where a call gave a value one upcall is open, or others are open around the innermost
 abbrev pub IsOnly : Gave → World → Type 0
-IsOnly (gave.Value v) w = length w.views ≡ 1
+IsOnly (gave.Value v) w = length (below w.views) ≡ 0
 IsOnly (gave.Stopped kind at) w = Unit {0}
+
+abbrev pub IsWithin : Gave → World → Type 0
+IsWithin (gave.Value v) w = (n : ℕ) × (length (below w.views) ≡ suc n)
+IsWithin (gave.Stopped kind at) w = Unit {0}
 
 -- what work that has no result came to
 abbrev pub WorkedFor : Worked → World → Work → Type 0

@@ -20,7 +20,7 @@ use Rattle.mdr_plain.specs.Running.{Crossing as AnyCrossing, Setting, Went as An
 use Rattle.mdr_plain.specs.World.{World, Ran}
 use Rattle.mdr_viewed.specs.Laws.{kernel_goes, returns}
 use Rattle.mdr_watched.specs.Driver.{Driver, driver_of, entry_roots, touched_by}
-use Rattle.mdr_watched.specs.Watched.{calls_back, downcall, entered, held, in_user, kernel_of, may_not, returns_to, serves}
+use Rattle.mdr_watched.specs.Watched.{calls_back, downcall, held, in_user, kernel_of, may_not, returns_to, serves}
 use Rattle.mdr_whole.specs.declared.paused.Paused.{Paused}
 use Rattle.mdr_whole.specs.declared.paused.Went.{Went}
 use Rattle.mdr_whole.specs.Pausing.{awaited, went_as}
@@ -60,12 +60,12 @@ user_side u = (driver_in u.watch).user
 abbrev pub touched_in : Upcall → List Key
 touched_in u = touched_by u.watch.plan.now u.func
 
--- what its services, its downcalls and their returns do in a world. Code of the kernel half that it calls may call nothing back
+-- what its services, its downcalls and their returns do in a world
 abbrev pub serves_in : Upcall → Question → World → Ran (List Wire)
 serves_in u asked w = serves (driver_in u.watch) (held (driver_in u.watch)) u.func (asked_as asked) w
 
-abbrev pub downcalls_in : Upcall → Crossing → World → Ran Wire
-downcalls_in u c w = downcall (driver_in u.watch) (held (driver_in u.watch)) u.func may_not c.at c.func (wires_of c.args) c.depth w
+abbrev pub downcalls_in : Activation → Crossing → World → Ran Wire
+downcalls_in a c w = downcall (driver_in a.upcall.watch) (held (driver_in a.upcall.watch)) a.upcall.func (backs_in a) c.at c.func (wires_of c.args) c.depth w
 
 abbrev pub returns_in : Upcall → Sets → Crossing → (sent : List Wire) → Wire → World → Ran Wire
 returns_in u s c sent v w = returns (driver_in u.watch) u.func s.inner (reverse s.outer) c.at c.func sent v w
@@ -88,12 +88,9 @@ enters_below watch c w = kernel_went watch (started (driver_in watch).kernel (su
 abbrev pub WentBelow : Watch → Paused → Wire → (old : World) → Went → (new : World) → Type 0
 WentBelow watch p v w g w' = (rest : ℕ) → w.clock.rest ≤ rest → came_below watch g w' ≡ kernel_went watch (awaited watch.program.now (driver_in watch).kernel p rest v) w
 
--- the set with which it begins, and what it does with a set
+-- the set with which it begins
 abbrev pub begins_with : Upcall → (args : List Wire) → World → Result (List Cell) Failing
 begins_with u args w = visible u.watch.program.now (touched_in u) w.memory [] (entry_roots u.watch.program.now u.func args)
 
-abbrev pub entered_in : Upcall → (args : List Wire) → List Cell → World → Ran Wire
-entered_in u args set w = entered (driver_in u.watch) (held (driver_in u.watch)) may_not u.func args 0 set w
-
-abbrev pub around_user : Upcall → Setting
-around_user u = in_user (driver_in u.watch) (held (driver_in u.watch)) u.func may_not
+abbrev pub around_user : Activation → Setting
+around_user a = in_user (driver_in a.upcall.watch) (held (driver_in a.upcall.watch)) a.upcall.func (backs_in a)

@@ -7,18 +7,21 @@ ghost use Rattle.mdr_meaning.specs.Values.{wire_of};
 ghost use Rattle.mdr_model.specs.Memory.{normal};
 ghost use Rattle.mdr_watch.specs.Guarding.{IsGuarded, StaysOpen, sets_of};
 ghost use Rattle.mdr_viewed.specs.Viewed.{viewed};
+ghost use Rattle.mdr_whole.specs.declared.paused.Went.TheVariants as went;
 ghost use Rattle.mdr_whole.specs.Ending.{gave_as};
 ghost use Rattle.mdr_whole.specs.Pausing.{IsPaused, IsWaiting};
-ghost use Rattle.mdr_watch.specs.Watching.{IsFit, WentBelow, came_below, comes_back, downcalls_in, enters_below, returns_in};
+ghost use Rattle.mdr_watch.specs.Nesting.{called_in, ends_below};
+ghost use Rattle.mdr_watch.specs.Watching.{HaveBodies, IsFit, WentBelow, came_below, comes_back, downcalls_in, enters_below, returns_in};
 
+use crate::backs::{call_back, sent_now};
 use crate::guarded::{Guarded, forget};
 use crate::roots::result_root;
 use crate::sets::Sets;
-use crate::watch::{Upcall, Watch, kernel_code, touched};
-use mdr_core::{Items, OutOfMemory, StopKind, Value};
+use crate::watch::{Activation, Upcall, Watch, kernel_code, touched};
+use mdr_core::{Items, Limit, OutOfMemory, StopKind, Value, spent};
 use mdr_events::Crossing;
 use mdr_reach::visible;
-use mdr_whole::{Gave, Nothing, Paused, Went, call, enter, go_on};
+use mdr_whole::{Gave, Nothing, Paused, Went, enter, go_on};
 use mdr_world::World;
 use std::alloc::Global;
 
@@ -61,65 +64,6 @@ fn take_anew(
             Ok(Gave::Value(value))
         }
         Err(_) => Ok(Gave::Stopped(StopKind::Annotation, Some(crossing.at))),
-    }
-}
-
-// ---- to the end
-
-/// A function of the kernel half is called in a world beside sets, and runs in place.
-fn call_beside(
-    alloc: Global,
-    upcall: Upcall,
-    world: &mut World,
-    sets: &mut Sets,
-    crossing: &Crossing,
-) -> Result<Gave, OutOfMemory>
-    requires sound { IsSound upcall.watch.program.now }
-    requires fit { IsFit upcall.watch }
-    requires same { world.old.program ≡ upcall.watch.program.now }
-    requires guarded { IsGuarded (sets_of sets.old) world.old.world }
-    ensures kept { OnOk result (world.new.program ≡ upcall.entry.watch.program.now) }
-    ensures guarded { OnOk result (IsGuarded (sets_of sets.new) world.new.world) }
-    ensures outer { OnOk result (sets.new.outer ≡ sets.old.outer) }
-    ensures gave { IfOk result (λ g. gave_as g (viewed (sets_of sets.new) world.new.world) ≡ downcalls_in upcall.entry crossing.now (viewed (sets_of sets.old) world.old.world)) }
-{
-    let _in_order = world.births();
-    let old = crossing.args.as_slice();
-    let args = sent(alloc, world, old)?;
-    let values = args.as_slice();
-    let code = kernel_code(upcall.watch);
-    let gave = call::<Nothing>(alloc, code, world, crossing.func, values, crossing.depth)?;
-    match gave {
-        Gave::Value(value) => take_anew(alloc, upcall, world, sets, crossing, values, value),
-        Gave::Stopped(kind, at) => Ok(Gave::Stopped(kind, at)),
-    }
-}
-
-/// A function of the kernel half is called, which runs in place and calls nothing back.
-pub(crate) fn downcall(
-    alloc: Global,
-    upcall: Upcall,
-    guarded: &mut Guarded,
-    crossing: &Crossing,
-) -> Result<Gave, OutOfMemory>
-    requires sound { IsSound upcall.watch.program.now }
-    requires fit { IsFit upcall.watch }
-    requires same { guarded.old.program ≡ upcall.watch.program.now }
-    ensures kept { OnOk result (guarded.new.program ≡ upcall.entry.watch.program.now) }
-    ensures gave { IfOk result (λ g. gave_as g guarded.new.world ≡ downcalls_in upcall.entry crossing.now guarded.old.world) }
-{
-    match call_beside(
-        alloc,
-        upcall,
-        &mut guarded.world,
-        &mut guarded.sets,
-        crossing,
-    ) {
-        Ok(gave) => Ok(gave),
-        Err(error) => {
-            forget(alloc, &mut guarded.world, &mut guarded.sets);
-            Err(error)
-        }
     }
 }
 
@@ -265,5 +209,96 @@ pub fn come_back(
             forget(alloc, &mut guarded.world, &mut guarded.sets);
             Err(error)
         }
+    }
+}
+
+// ---- to the end
+
+/// Code of the kernel half that waits calls back, and goes on with what that gives, if it gives a value.
+#[cycle(upcalls)]
+fn back_below(
+    alloc: Global,
+    activation: Activation,
+    guarded: &mut Guarded,
+    crossing: Crossing,
+    paused: Paused,
+) -> Result<Went, OutOfMemory>
+    requires sound { IsSound activation.upcall.watch.program.now }
+    requires fit { IsFit activation.upcall.watch }
+    requires bodies { HaveBodies activation.upcall.watch.program.now }
+    requires same { guarded.old.program ≡ activation.upcall.watch.program.now }
+    requires waits { IsPaused activation.upcall.watch.program.now paused }
+    ensures kept { OnOk result (guarded.new.program ≡ activation.entry.upcall.watch.program.now) }
+    ensures waiting { IfOk result (IsWaiting activation.entry.upcall.watch.program.now) }
+    ensures went { IfOk result (λ g. ends_below activation.entry g guarded.new.world ≡ ends_below activation.entry (went.Calls crossing paused) guarded.old.world) }
+{
+    match call_back(alloc, activation, guarded, &crossing) {
+        Ok(Gave::Value(value)) => {
+            drop(crossing);
+            go_on_below(alloc, activation.upcall.watch, guarded, paused, value)
+        }
+        Ok(Gave::Stopped(kind, at)) => {
+            drop(crossing);
+            drop(paused);
+            Ok(Went::Gave(Gave::Stopped(kind, at)))
+        }
+        Err(error) => {
+            drop(crossing);
+            drop(paused);
+            Err(error)
+        }
+    }
+}
+
+/// A function of the kernel half is called with these arguments, and runs to its end.
+#[cycle(upcalls)]
+fn call_below(
+    alloc: Global,
+    activation: Activation,
+    guarded: &mut Guarded,
+    crossing: &Crossing,
+) -> Result<Gave, OutOfMemory>
+    requires sound { IsSound activation.upcall.watch.program.now }
+    requires fit { IsFit activation.upcall.watch }
+    requires bodies { HaveBodies activation.upcall.watch.program.now }
+    requires same { guarded.old.program ≡ activation.upcall.watch.program.now }
+    ensures kept { OnOk result (guarded.new.program ≡ activation.entry.upcall.watch.program.now) }
+    ensures gave { IfOk result (λ g. gave_as g guarded.new.world ≡ called_in activation.entry crossing.now guarded.old.world) }
+{
+    let mut went = enter_below(alloc, activation.upcall.watch, guarded, crossing)?;
+    let mut turns: u64 = 0;
+    while turns < u64::MAX {
+        turns += 1;
+        match went {
+            Went::Gave(gave) => return Ok(gave),
+            Went::Calls(back, paused) => {
+                went = back_below(alloc, activation, guarded, back, paused)?;
+            }
+        }
+    }
+    drop(went);
+    Err(spent(turns, Limit::Turns))
+}
+
+/// A function of the kernel half is called by user code, with its arguments as they are now, and runs in place.
+#[cycle(upcalls)]
+pub(crate) fn downcall(
+    alloc: Global,
+    activation: Activation,
+    guarded: &mut Guarded,
+    crossing: &Crossing,
+) -> Result<Gave, OutOfMemory>
+    requires sound { IsSound activation.upcall.watch.program.now }
+    requires fit { IsFit activation.upcall.watch }
+    requires bodies { HaveBodies activation.upcall.watch.program.now }
+    requires same { guarded.old.program ≡ activation.upcall.watch.program.now }
+    ensures kept { OnOk result (guarded.new.program ≡ activation.entry.upcall.watch.program.now) }
+    ensures gave { IfOk result (λ g. gave_as g guarded.new.world ≡ downcalls_in activation.entry crossing.now guarded.old.world) }
+{
+    let sent = sent_now(alloc, guarded, crossing)?;
+    let gave = call_below(alloc, activation, guarded, &sent)?;
+    match gave {
+        Gave::Value(value) => come_back(alloc, activation.upcall, guarded, &sent, value),
+        Gave::Stopped(kind, at) => Ok(Gave::Stopped(kind, at)),
     }
 }

@@ -7,7 +7,7 @@ ghost use Rattle.mdr_model.specs.Memory.{normal};
 ghost use Rattle.mdr_plain.specs.Atomic.{is_atomic};
 ghost use Rattle.mdr_viewed.specs.Viewed.{IsOlder};
 ghost use Rattle.mdr_watched.specs.Order.{AreLive};
-ghost use Rattle.mdr_watched.specs.Views.{closed, living, opened, top};
+ghost use Rattle.mdr_watched.specs.Views.{below, closed, living, opened, top};
 ghost use Rattle.mdr_world.specs.Driven.{Ticks, driver};
 ghost use Rattle.mdr_watch.specs.Leaving.{IsClosed, with_views};
 ghost use Rattle.mdr_watch.specs.Guarding.{IsGuarded, beside, guarded_accesses, sets_of};
@@ -101,6 +101,33 @@ fn sets_over(set: CellSet, sets: Sets) -> Result<Sets, OutOfMemory>
             drop(outer);
             Err(error.into())
         }
+    }
+}
+
+/// A set over others, in place.
+fn push_set(sets: &mut Sets, set: CellSet) -> Result<(), OutOfMemory>
+    ensures { OnOk result (sets_of sets.new ≡ set ∷ sets_of sets.old) }
+{
+    let inner = std::mem::replace(&mut sets.inner, set);
+    sets.outer.push(inner)?;
+    Ok(())
+}
+
+/// The innermost set is gone, in place.
+fn pop_set(alloc: Global, sets: &mut Sets)
+    requires { (n : ℕ) × (length sets.old.outer ≡ suc n) }
+    ensures { sets_of sets.old ≡ sets.old.inner ∷ sets_of sets.new }
+{
+    let outer = std::mem::replace(&mut sets.outer, Items::new(alloc));
+    let mut outer = outer.into_vec();
+    match outer.pop() {
+        Some(inner) => {
+            *sets = Sets {
+                inner,
+                outer: Items::from_vec(outer),
+            };
+        }
+        None => unreachable!(),
     }
 }
 
@@ -240,6 +267,29 @@ impl<'a> Guarded<'a> {
             Closing::Last(_) => unreachable!(),
             Closing::Under(around) => around,
         }
+    }
+
+    /// One opens with a set in another, in place.
+    pub(crate) fn push(&mut self, alloc: Global, set: CellSet) -> Result<(), OutOfMemory>
+        requires live { AreLive self.old.world.memory set }
+        requires older { IsOlder set self.old.world }
+        ensures { OnOk result (self.new ≡ driver self.old.program (opened set self.old.world)) }
+    {
+        match push_set(&mut self.sets, set) {
+            Ok(()) => Ok(()),
+            Err(error) => {
+                forget(alloc, &mut self.world, &mut self.sets);
+                Err(error)
+            }
+        }
+    }
+
+    /// The innermost upcall is over, in place, and the one around it is the innermost.
+    pub(crate) fn pop(&mut self, alloc: Global)
+        requires { (n : ℕ) × (length (below self.old.world.views) ≡ suc n) }
+        ensures { self.new ≡ driver self.old.program (closed self.old.world) }
+    {
+        pop_set(alloc, &mut self.sets);
     }
 
     /// One tick, if one is left.

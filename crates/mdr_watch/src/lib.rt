@@ -4,10 +4,11 @@
 //! While functions of the user half are active the state of the run is a `Guarded`: the world of a plain run, beside the sets
 //! of the upcalls that are open. User code may touch the cells of the innermost, in which cells of dead blocks may be left.
 //! Code of the kernel half runs on the world alone, up to its end or to where it calls back (`enter_below`, `go_on_below`).
-//! In the run of this crate it may not: where it would the run stops, and one upcall is open at most.
+//! Where it calls back an upcall opens in the others (`call_back`), for as many within one another as there is room for.
 #![tactic(auto)]
 
 mod asks;
+mod backs;
 mod commands;
 mod downcalls;
 mod guarded;

@@ -9,13 +9,13 @@ ghost use Rattle.mdr_events.specs.Values.{wires_of};
 ghost use Rattle.mdr_exec.specs.Holding.{Takes, held_of};
 ghost use Rattle.mdr_whole.specs.Ending.{gave_as};
 ghost use Rattle.mdr_watch.specs.Going.{Began, GoesOn, GoesOnWith, Passed, RanIn, user_does};
-ghost use Rattle.mdr_watch.specs.Watching.{IsFit};
+ghost use Rattle.mdr_watch.specs.Watching.{HaveBodies, IsFit};
 
 use crate::asks::ask;
 use crate::downcalls::downcall;
 use crate::guarded::Guarded;
 use crate::next::Next;
-use crate::watch::Upcall;
+use crate::watch::{Activation, Upcall};
 use mdr_core::{At, Limit, OutOfMemory, StopKind, Value, spent};
 use mdr_events::{Asked, Crossing, Event};
 use mdr_exec::{Machine, Side};
@@ -46,16 +46,16 @@ fn go(
 fn begin(
     machine: &mut Machine,
     alloc: Global,
-    upcall: Upcall,
+    activation: Activation,
     guarded: &mut Guarded,
 ) -> Result<Event, OutOfMemory>
-    requires sound { IsSound upcall.watch.program.now }
-    requires fit { IsFit upcall.watch }
-    requires same { guarded.old.program ≡ upcall.watch.program.now }
-    requires ready { IsReady (held_of upcall.watch.program.now machine.old) }
-    ensures { IfOk result (λ e. Began upcall.entry machine.old guarded.old machine.new e guarded.new) }
+    requires sound { IsSound activation.upcall.watch.program.now }
+    requires fit { IsFit activation.upcall.watch }
+    requires same { guarded.old.program ≡ activation.upcall.watch.program.now }
+    requires ready { IsReady (held_of activation.upcall.watch.program.now machine.old) }
+    ensures { IfOk result (λ e. Began activation.entry machine.old guarded.old machine.new e guarded.new) }
 {
-    let event = go(machine, alloc, upcall, guarded, 0)?;
+    let event = go(machine, alloc, activation.upcall, guarded, 0)?;
     Ok(event)
 }
 
@@ -63,16 +63,16 @@ fn begin(
 fn go_on(
     machine: &mut Machine,
     alloc: Global,
-    upcall: Upcall,
+    activation: Activation,
     guarded: &mut Guarded,
 ) -> Result<Event, OutOfMemory>
-    requires sound { IsSound upcall.watch.program.now }
-    requires fit { IsFit upcall.watch }
-    requires same { guarded.old.program ≡ upcall.watch.program.now }
-    requires ready { IsReady (held_of upcall.watch.program.now machine.old) }
-    ensures { IfOk result (λ e. Passed upcall.entry machine.old guarded.old machine.new e guarded.new) }
+    requires sound { IsSound activation.upcall.watch.program.now }
+    requires fit { IsFit activation.upcall.watch }
+    requires same { guarded.old.program ≡ activation.upcall.watch.program.now }
+    requires ready { IsReady (held_of activation.upcall.watch.program.now machine.old) }
+    ensures { IfOk result (λ e. Passed activation.entry machine.old guarded.old machine.new e guarded.new) }
 {
-    let event = go(machine, alloc, upcall, guarded, 1)?;
+    let event = go(machine, alloc, activation.upcall, guarded, 1)?;
     Ok(event)
 }
 
@@ -80,18 +80,18 @@ fn go_on(
 fn tick(
     machine: &mut Machine,
     alloc: Global,
-    upcall: Upcall,
+    activation: Activation,
     guarded: &mut Guarded,
     at: At,
 ) -> Result<Next, OutOfMemory>
-    requires sound { IsSound upcall.watch.program.now }
-    requires fit { IsFit upcall.watch }
-    requires same { guarded.old.program ≡ upcall.watch.program.now }
-    requires ready { IsReady (held_of upcall.watch.program.now machine.old) }
-    ensures { IfOk result (λ n. GoesOn upcall.entry machine.old (event.TicksOut at) guarded.old machine.new n guarded.new) }
+    requires sound { IsSound activation.upcall.watch.program.now }
+    requires fit { IsFit activation.upcall.watch }
+    requires same { guarded.old.program ≡ activation.upcall.watch.program.now }
+    requires ready { IsReady (held_of activation.upcall.watch.program.now machine.old) }
+    ensures { IfOk result (λ n. GoesOn activation.entry machine.old (event.TicksOut at) guarded.old machine.new n guarded.new) }
 {
     if guarded.tick() {
-        let event = go_on(machine, alloc, upcall, guarded)?;
+        let event = go_on(machine, alloc, activation, guarded)?;
         return Ok(Next::Came(event));
     }
     Ok(Next::Gave(Gave::Stopped(StopKind::Ticks, Some(at))))
@@ -101,18 +101,18 @@ fn tick(
 fn resume(
     machine: &mut Machine,
     alloc: Global,
-    upcall: Upcall,
+    activation: Activation,
     guarded: &mut Guarded,
     results: &[Value],
 ) -> Result<Next, OutOfMemory>
-    requires sound { IsSound upcall.watch.program.now }
-    requires fit { IsFit upcall.watch }
-    requires same { guarded.old.program ≡ upcall.watch.program.now }
-    requires takes { Takes upcall.watch.program.now machine.old results.now }
-    ensures { IfOk result (λ n. GoesOnWith upcall.entry (wires_of results.now) machine.old guarded.old machine.new n guarded.new) }
+    requires sound { IsSound activation.upcall.watch.program.now }
+    requires fit { IsFit activation.upcall.watch }
+    requires same { guarded.old.program ≡ activation.upcall.watch.program.now }
+    requires takes { Takes activation.upcall.watch.program.now machine.old results.now }
+    ensures { IfOk result (λ n. GoesOnWith activation.entry (wires_of results.now) machine.old guarded.old machine.new n guarded.new) }
 {
     machine.resume(results);
-    let event = begin(machine, alloc, upcall, guarded)?;
+    let event = begin(machine, alloc, activation, guarded)?;
     Ok(Next::Came(event))
 }
 
@@ -120,105 +120,113 @@ fn resume(
 fn answer(
     machine: &mut Machine,
     alloc: Global,
-    upcall: Upcall,
+    activation: Activation,
     guarded: &mut Guarded,
     asked: &Asked,
 ) -> Result<Next, OutOfMemory>
-    requires sound { IsSound upcall.watch.program.now }
-    requires fit { IsFit upcall.watch }
-    requires same { guarded.old.program ≡ upcall.watch.program.now }
-    requires waiting { LeavesAt (event.Service asked.now) (held_of upcall.watch.program.now machine.old) }
-    ensures { IfOk result (λ n. GoesOn upcall.entry machine.old (event.Service asked.now) guarded.old machine.new n guarded.new) }
+    requires sound { IsSound activation.upcall.watch.program.now }
+    requires fit { IsFit activation.upcall.watch }
+    requires same { guarded.old.program ≡ activation.upcall.watch.program.now }
+    requires waiting { LeavesAt (event.Service asked.now) (held_of activation.upcall.watch.program.now machine.old) }
+    ensures { IfOk result (λ n. GoesOn activation.entry machine.old (event.Service asked.now) guarded.old machine.new n guarded.new) }
 {
-    let served = ask(alloc, upcall, guarded, asked)?;
+    let served = ask(alloc, activation.upcall, guarded, asked)?;
     match served {
-        Served::Done(results) => resume(machine, alloc, upcall, guarded, results.as_slice()),
+        Served::Done(results) => resume(machine, alloc, activation, guarded, results.as_slice()),
         Served::Stop(kind) => Ok(Next::Gave(Gave::Stopped(kind, Some(asked.at)))),
     }
 }
 
 /// A function of the kernel half is called.
+#[cycle(upcalls)]
 fn cross(
     machine: &mut Machine,
     alloc: Global,
-    upcall: Upcall,
+    activation: Activation,
     guarded: &mut Guarded,
     crossing: &Crossing,
 ) -> Result<Next, OutOfMemory>
-    requires sound { IsSound upcall.watch.program.now }
-    requires fit { IsFit upcall.watch }
-    requires same { guarded.old.program ≡ upcall.watch.program.now }
-    requires waiting { LeavesAt (event.Cross crossing.now) (held_of upcall.watch.program.now machine.old) }
-    ensures { IfOk result (λ n. GoesOn upcall.entry machine.old (event.Cross crossing.now) guarded.old machine.new n guarded.new) }
+    requires sound { IsSound activation.upcall.watch.program.now }
+    requires fit { IsFit activation.upcall.watch }
+    requires bodies { HaveBodies activation.upcall.watch.program.now }
+    requires same { guarded.old.program ≡ activation.upcall.watch.program.now }
+    requires waiting { LeavesAt (event.Cross crossing.now) (held_of activation.upcall.watch.program.now machine.old) }
+    ensures { IfOk result (λ n. GoesOn activation.entry machine.old (event.Cross crossing.now) guarded.old machine.new n guarded.new) }
 {
-    let gave = downcall(alloc, upcall, guarded, crossing)?;
+    let gave = downcall(alloc, activation, guarded, crossing)?;
     match gave {
-        Gave::Value(value) => resume(machine, alloc, upcall, guarded, &[value]),
+        Gave::Value(value) => resume(machine, alloc, activation, guarded, &[value]),
         Gave::Stopped(kind, at) => Ok(Next::Gave(Gave::Stopped(kind, at))),
     }
 }
 
 /// What follows an event.
+#[cycle(upcalls)]
 fn follow(
     machine: &mut Machine,
     alloc: Global,
-    upcall: Upcall,
+    activation: Activation,
     guarded: &mut Guarded,
     event: &Event,
 ) -> Result<Next, OutOfMemory>
-    requires sound { IsSound upcall.watch.program.now }
-    requires fit { IsFit upcall.watch }
-    requires same { guarded.old.program ≡ upcall.watch.program.now }
-    requires left { LeavesAt event.now (held_of upcall.watch.program.now machine.old) }
-    ensures { IfOk result (λ n. GoesOn upcall.entry machine.old event.now guarded.old machine.new n guarded.new) }
+    requires sound { IsSound activation.upcall.watch.program.now }
+    requires fit { IsFit activation.upcall.watch }
+    requires bodies { HaveBodies activation.upcall.watch.program.now }
+    requires same { guarded.old.program ≡ activation.upcall.watch.program.now }
+    requires left { LeavesAt event.now (held_of activation.upcall.watch.program.now machine.old) }
+    ensures { IfOk result (λ n. GoesOn activation.entry machine.old event.now guarded.old machine.new n guarded.new) }
 {
     match event {
         Event::Done(value) => Ok(Next::Gave(Gave::Value(guarded.now(*value)))),
         Event::Stop(kind, at) => Ok(Next::Gave(Gave::Stopped(*kind, Some(*at)))),
-        Event::Service(asked) => answer(machine, alloc, upcall, guarded, asked),
-        Event::TicksOut(at) => tick(machine, alloc, upcall, guarded, *at),
-        Event::Cross(crossing) => cross(machine, alloc, upcall, guarded, crossing),
+        Event::Service(asked) => answer(machine, alloc, activation, guarded, asked),
+        Event::TicksOut(at) => tick(machine, alloc, activation, guarded, *at),
+        Event::Cross(crossing) => cross(machine, alloc, activation, guarded, crossing),
     }
 }
 
 /// What follows an event, which is let go of then.
+#[cycle(upcalls)]
 fn follow_up(
     machine: &mut Machine,
     alloc: Global,
-    upcall: Upcall,
+    activation: Activation,
     guarded: &mut Guarded,
     event: Event,
 ) -> Result<Next, OutOfMemory>
-    requires sound { IsSound upcall.watch.program.now }
-    requires fit { IsFit upcall.watch }
-    requires same { guarded.old.program ≡ upcall.watch.program.now }
-    requires left { LeavesAt event (held_of upcall.watch.program.now machine.old) }
-    ensures { IfOk result (λ n. GoesOn upcall.entry machine.old event guarded.old machine.new n guarded.new) }
+    requires sound { IsSound activation.upcall.watch.program.now }
+    requires fit { IsFit activation.upcall.watch }
+    requires bodies { HaveBodies activation.upcall.watch.program.now }
+    requires same { guarded.old.program ≡ activation.upcall.watch.program.now }
+    requires left { LeavesAt event (held_of activation.upcall.watch.program.now machine.old) }
+    ensures { IfOk result (λ n. GoesOn activation.entry machine.old event guarded.old machine.new n guarded.new) }
 {
-    let next = follow(machine, alloc, upcall, guarded, &event);
+    let next = follow(machine, alloc, activation, guarded, &event);
     drop(event);
     next
 }
 
 /// Runs a machine until the function that was started in it ends.
+#[cycle(upcalls)]
 pub(crate) fn run(
     machine: &mut Machine,
     alloc: Global,
-    upcall: Upcall,
+    activation: Activation,
     guarded: &mut Guarded,
 ) -> Result<Gave, OutOfMemory>
-    requires sound { IsSound upcall.watch.program.now }
-    requires fit { IsFit upcall.watch }
-    requires same { guarded.old.program ≡ upcall.watch.program.now }
-    requires ready { IsReady (held_of upcall.watch.program.now machine.old) }
-    ensures kept { OnOk result (guarded.new.program ≡ upcall.entry.watch.program.now) }
-    ensures gave { IfOk result (λ g. gave_as g guarded.new.world ≡ user_does upcall.entry guarded.old.world.clock.rest machine.old guarded.old.world) }
+    requires sound { IsSound activation.upcall.watch.program.now }
+    requires fit { IsFit activation.upcall.watch }
+    requires bodies { HaveBodies activation.upcall.watch.program.now }
+    requires same { guarded.old.program ≡ activation.upcall.watch.program.now }
+    requires ready { IsReady (held_of activation.upcall.watch.program.now machine.old) }
+    ensures kept { OnOk result (guarded.new.program ≡ activation.entry.upcall.watch.program.now) }
+    ensures gave { IfOk result (λ g. gave_as g guarded.new.world ≡ user_does activation.entry guarded.old.world.clock.rest machine.old guarded.old.world) }
 {
-    let mut event = begin(machine, alloc, upcall, guarded)?;
+    let mut event = begin(machine, alloc, activation, guarded)?;
     let mut turns: u64 = 0;
     while turns < u64::MAX {
         turns += 1;
-        let next = follow_up(machine, alloc, upcall, guarded, event)?;
+        let next = follow_up(machine, alloc, activation, guarded, event)?;
         match next {
             Next::Came(other) => event = other,
             Next::Gave(gave) => return Ok(gave),

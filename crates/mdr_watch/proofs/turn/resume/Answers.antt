@@ -6,8 +6,8 @@ use Rattle.mdr_watch.proofs.turn.resume.Goals as goal
 
 pub returns : goal.returns
 returns c =
-    resumed c.args.upcall (wires_of c.args.results.now) c.args.machine.now c.resume.new.self c.begin.new.machine c.args.guarded.now c.begin.new.guarded c.in_ok-event.event
-    (λ f r. c.resume.ensures.goes_on (program_in c.args.upcall) (user_side c.args.upcall) f r) c.in_ok-event.ensures
+    resumed c.args.activation (wires_of c.args.results.now) c.args.machine.now c.resume.new.self c.begin.new.machine c.args.guarded.now c.begin.new.guarded c.in_ok-event.event
+    (λ f r. c.resume.ensures.goes_on (program_in c.args.activation.upcall) (user_side c.args.activation.upcall) f r) c.in_ok-event.ensures
 
 pub resume-requires-clause-waiting : goal.resume-requires-clause-waiting
 resume-requires-clause-waiting c = c.requires.takes.waiting
@@ -16,4 +16,4 @@ pub resume-requires-clause-fit : goal.resume-requires-clause-fit
 resume-requires-clause-fit c = c.requires.takes.fit
 
 pub begin-requires-clause-ready : goal.begin-requires-clause-ready
-begin-requires-clause-ready c = c.resume.ensures.ready (program_in c.args.upcall) c.requires.takes.started
+begin-requires-clause-ready c = c.resume.ensures.ready (program_in c.args.activation.upcall) c.requires.takes.started
