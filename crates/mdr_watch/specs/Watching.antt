@@ -20,7 +20,7 @@ use Rattle.mdr_plain.specs.Running.{Crossing as AnyCrossing, Setting, Went as An
 use Rattle.mdr_plain.specs.World.{World, Ran}
 use Rattle.mdr_viewed.specs.Laws.{kernel_goes, returns}
 use Rattle.mdr_watched.specs.Driver.{Driver, driver_of, entry_roots, touched_by}
-use Rattle.mdr_watched.specs.Watched.{calls_back, downcall, held, in_user, kernel_of, may_not, returns_to, serves}
+use Rattle.mdr_watched.specs.Watched.{calls_back, downcall, held, in_user, kernel_of, returns_to, serves}
 use Rattle.mdr_whole.specs.declared.paused.Paused.{Paused}
 use Rattle.mdr_whole.specs.declared.paused.Went.{Went}
 use Rattle.mdr_whole.specs.Pausing.{awaited, went_as}
