@@ -30,8 +30,13 @@ below_birth births n marks below = λ q t h. of q t (inside (front n marks) n q)
     of q t true h old = omega (arith, eqb-true births t h)
     of q t false h old = omega (arith, old h)
 
-pub block_born : (births n : ℕ) (marks : List Mark) → 0 < n → AreBelow births marks → IsBlock (placed births n marks) births (front n marks) n
-block_born births n marks pos below = record { some = pos; places = λ q. ap (names births) (placed_at births n q marks) ∙ of q (inside (front n marks) n q) (names births (get_or marks q None)) refl (below q births) }
+front_none : (marks : List Mark) → front 0 marks ≡ 0
+unfolding front are_free
+front_none [] = refl
+front_none (m ∷ marks) = refl
+
+pub block_born : (births n : ℕ) (marks : List Mark) → AreBelow births marks → IsBlock (placed births n marks) births (front n marks) n
+block_born births n marks below = record { none = λ e. ap (λ x. front x marks) e ∙ front_none marks; places = λ q. ap (names births) (placed_at births n q marks) ∙ of q (inside (front n marks) n q) (names births (get_or marks q None)) refl (below q births) }
   where
     of : (q : ℕ) (i b : Bool) → names births (get_or marks q None) ≡ b → (names births (get_or marks q None) ≡ true → births < births) → names births (cond i (Some births) (get_or marks q None)) ≡ i
     of q true b e no_one = eq-eqb births births refl
@@ -39,7 +44,7 @@ block_born births n marks pos below = record { some = pos; places = λ q. ap (na
     of q false true e no_one = absurd (omega (arith, no_one e))
 
 pub block_stays : (births n s start cells : ℕ) (marks : List Mark) → s < births → IsBlock marks s start cells → IsBlock (placed births n marks) s start cells
-block_stays births n s start cells marks old b = record { some = b.some; places = λ q. ap (names s) (placed_at births n q marks) ∙ (of q (inside (front n marks) n q) (front_free n q marks) ∙ b.places q) }
+block_stays births n s start cells marks old b = record { none = b.none; places = λ q. ap (names s) (placed_at births n q marks) ∙ (of q (inside (front n marks) n q) (front_free n q marks) ∙ b.places q) }
   where
     of : (q : ℕ) (i : Bool) → (i ≡ true → get_or marks q None ≡ None) → names s (cond i (Some births) (get_or marks q None)) ≡ names s (get_or marks q None)
     of q false free = refl
@@ -55,7 +60,7 @@ below_death births s marks below = λ q t h. below q t (of t (names t (get_or ma
     of t false h = h
 
 pub block_left : (s t start cells : ℕ) (marks : List Mark) → s ≢ t → IsBlock marks t start cells → IsBlock (left s marks) t start cells
-block_left s t start cells marks other b = record { some = b.some; places = λ q. ap (names t) (left_at s q marks) ∙ (names_freed s t (get_or marks q None) ∙ (of (names t (get_or marks q None)) (s == t) refl ∙ b.places q)) }
+block_left s t start cells marks other b = record { none = b.none; places = λ q. ap (names t) (left_at s q marks) ∙ (names_freed s t (get_or marks q None) ∙ (of (names t (get_or marks q None)) (s == t) refl ∙ b.places q)) }
   where
     of : (b u : Bool) → (s == t) ≡ u → (b && not u) ≡ b
     of true true e = absurd (other (eqb-true s t e))
@@ -150,11 +155,11 @@ blocks_freed s (suc start) n m (Some t ∷ marks) pos e h =
     let off : (t == s) ≡ false = grind (arith, nat_tests, h 0) in
     omega (arith, ap (λ x. blocks m (cond x None (Some t) ∷ map (freed s) marks)) off, blocks_freed s start n (Some t) marks pos off (λ q. grind (arith, nat_tests, h (suc q))))
 
-pub blocks_death : (s start n : ℕ) (marks : List Mark) → IsBlock marks s start n → blocks None (left s marks) + 1 ≡ blocks None marks
-blocks_death s start n marks b = omega (arith, blocks_trimmed None (map (freed s) marks), blocks_freed s start n None marks b.some refl b.places)
+pub blocks_death : (s start n : ℕ) (marks : List Mark) → 0 < n → IsBlock marks s start n → blocks None (left s marks) + 1 ≡ blocks None marks
+blocks_death s start n marks some b = omega (arith, blocks_trimmed None (map (freed s) marks), blocks_freed s start n None marks some refl b.places)
 
-pub blocks_without : (s start n : ℕ) (marks : List Mark) → IsBlock marks s start n → blocks None (map (freed s) marks) + 1 ≡ blocks None marks
-blocks_without s start n marks b = blocks_freed s start n None marks b.some refl b.places
+pub blocks_without : (s start n : ℕ) (marks : List Mark) → 0 < n → IsBlock marks s start n → blocks None (map (freed s) marks) + 1 ≡ blocks None marks
+blocks_without s start n marks some b = blocks_freed s start n None marks some refl b.places
 
 -- ---- how many holes there are
 

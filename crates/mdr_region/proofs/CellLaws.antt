@@ -2,11 +2,11 @@
 use Rattle.std.proofs.Common.{◌≡◌, ◌<◌, ◌≤◌, ◌+◌, ℕ, zero, suc, Bool, true, false, cond, List, replicate, [], ◌∷◌, ◌++◌, length, take, drop, Option, Some, None, refl, sym, ◌∙◌, ap, arith, ◌⊎◌, inl, inr, set, ◌-◌, ◌≢◌}
 use Rattle.std.specs.Prelude.{is_some, nat_le}
 use Rattle.std.proofs.lemmas.Bool.Decides.{nat_tests}
-use Rattle.std.proofs.lemmas.List.{length-replicate, length-append, length-take, length-drop, take_all, drop_all, take_at, append-nil, drop-set-add, take-set-le, drop-set-lt}
+use Rattle.std.proofs.lemmas.List.{length-replicate, length-append, length-take, length-drop, take_all, drop_all, take_at, take-append-drop, append-nil, drop-set-add, take-set-le, drop-set-lt}
 use Rattle.mdr_core.specs.declared.value.Value.{Value}
 use Rattle.mdr_region.specs.Layout.{Mark, are_free, placed, left}
 use Rattle.mdr_region.specs.Holes.{risen, front, inside}
-use Rattle.mdr_region.specs.Blocks.{IsBlock}
+use Rattle.mdr_region.specs.Blocks.{IsBlock, AreBelow}
 use Rattle.mdr_region.specs.Laws.{CellsStay}
 use Rattle.mdr_region.proofs.DeathLaws.{parted}
 use Rattle.mdr_region.proofs.BlockLaws.{never_overlap, block_born, block_stays}
@@ -109,7 +109,7 @@ front_low n (m ∷ marks) = of (are_free n (m ∷ marks)) (front_low n marks)
 
 pub block_inside : (marks : List Mark) (serial start cells : ℕ) → IsBlock marks serial start cells → start + cells ≤ length marks
 block_inside marks serial start cells b =
-    let parts = parted serial start cells marks b.some b.places in
+    let parts = parted serial start cells marks b.none b.places in
     omega (arith, ap length parts.whole, length-append (take start marks) (replicate cells (Some serial) ++ drop (start + cells) marks), length-append (replicate cells (Some serial)) (drop (start + cells) marks), length-replicate cells (Some serial), parts.front)
 
 -- ---- a store
@@ -133,27 +133,42 @@ stored_behind : (a m place : ℕ) (v : Value) (values : List Value) → place < 
 stored_behind a m place v values l = ap (take m) (drop-set-lt a values place v l)
 
 pub stored_other : (marks : List Mark) (s t a m b n cell : ℕ) (v : Value) (values : List Value) → s ≢ t → IsBlock marks s a m → IsBlock marks t b n → cell < n → cells_of a m (set values (b + cell) v) ≡ cells_of a m values
-stored_other marks s t a m b n cell v values other x y l = of (disjoint a m b n x.some y.some (λ q i j. other (never_overlap marks s t a b m n q x y i j)))
+stored_other marks s t a zero b n cell v values other x y l = refl
+stored_other marks s t a (suc m) b n cell v values other x y l = of (disjoint a (suc m) b n (omega arith) (omega (arith, l)) (λ q i j. other (never_overlap marks s t a b (suc m) n q x y i j)))
   where
-    of : (a + m ≤ b) ⊎ (b + n ≤ a) → cells_of a m (set values (b + cell) v) ≡ cells_of a m values
-    of (inl h) = stored_before a m (b + cell) v values (omega (arith, h))
-    of (inr h) = stored_behind a m (b + cell) v values (omega (arith, h, l))
+    of : (a + suc m ≤ b) ⊎ (b + n ≤ a) → cells_of a (suc m) (set values (b + cell) v) ≡ cells_of a (suc m) values
+    of (inl h) = stored_before a (suc m) (b + cell) v values (omega (arith, h))
+    of (inr h) = stored_behind a (suc m) (b + cell) v values (omega (arith, h, l))
+
+-- where nothing is written all stays
+pub written_none : (start : ℕ) (values : List Value) → written start [] values ≡ values
+written_none start values = ap (λ x. take start values ++ drop x values) e ∙ take-append-drop start values
+  where
+    e : start + 0 ≡ start
+    e = omega arith
+
+born_other : (births serial start cells : ℕ) (marks : List Mark) (first values : List Value) → length values ≡ length marks → AreBelow births marks → serial < births → IsBlock marks serial start cells
+    → cells_of start cells (written (front (length first) marks) first values) ≡ cells_of start cells values
+born_other births serial start zero marks first values size below old b = refl
+born_other births serial start (suc cells) marks [] values size below old b = ap (cells_of start (suc cells)) (written_none (front 0 marks) values)
+born_other births serial start (suc cells) marks (v ∷ first) values size below old b =
+    apart (disjoint start (suc cells) (front n marks) n (omega arith) (omega arith) (λ q i j. clash (never_overlap (placed births n marks) serial births start (front n marks) (suc cells) n q (block_stays births n serial start (suc cells) marks old b) (block_born births n marks below) i j)))
+  where
+    n : ℕ
+    n = length (v ∷ first)
+
+    clash : serial ≡ births → ⊥
+    clash e = omega (arith, e, old)
+
+    apart : (start + suc cells ≤ front n marks) ⊎ (front n marks + n ≤ start) → cells_of start (suc cells) (written (front n marks) (v ∷ first) values) ≡ cells_of start (suc cells) values
+    apart (inl l) = written_before start (suc cells) (front n marks) (v ∷ first) values l (omega (arith, front_low n marks, size))
+    apart (inr l) = written_behind start (suc cells) (front n marks) (v ∷ first) values l (omega (arith, front_low n marks, size))
 
 pub cells_stay : CellsStay
 cells_stay = record {
   stored = stored_own;
   other = stored_other;
   own = written_own;
-  birth = λ births serial start cells marks first values pos size below old b.
-      apart births serial start cells marks first values b size (disjoint start cells (front (length first) marks) (length first) b.some pos (λ q i j. clash births serial (never_overlap (placed births (length first) marks) serial births start (front (length first) marks) cells (length first) q (block_stays births (length first) serial start cells marks old b) (block_born births (length first) marks pos below) i j) old));
+  birth = born_other;
   death = λ dead serial start cells marks values b. cells_below start cells (length (left dead marks)) values (block_inside (left dead marks) serial start cells b);
 }
-  where
-    clash : (births serial : ℕ) → serial ≡ births → serial < births → ⊥
-    clash births serial e l = omega (arith, e, l)
-
-    apart : (births serial start cells : ℕ) (marks : List Mark) (first values : List Value) → IsBlock marks serial start cells → length values ≡ length marks
-        → (start + cells ≤ front (length first) marks) ⊎ (front (length first) marks + length first ≤ start)
-        → cells_of start cells (written (front (length first) marks) first values) ≡ cells_of start cells values
-    apart births serial start cells marks first values b size (inl l) = written_before start cells (front (length first) marks) first values l (omega (arith, front_low (length first) marks, size))
-    apart births serial start cells marks first values b size (inr l) = written_behind start cells (front (length first) marks) first values l (omega (arith, front_low (length first) marks, size))

@@ -1,5 +1,5 @@
 -- What a region's contents are after a birth, a store and a death.
-use Rattle.std.proofs.Common.{◌≡◌, ◌≢◌, ◌<◌, ◌+◌, ℕ, true, List, [], ◌∷◌, ◌++◌, map, length, take, Some, None, refl, sym, ◌∙◌, ap, subst, arith}
+use Rattle.std.proofs.Common.{◌≡◌, ◌≢◌, ◌+◌, ℕ, true, List, [], ◌∷◌, ◌++◌, map, length, take, Some, None, refl, sym, ◌∙◌, ap, subst}
 use Rattle.std.proofs.lemmas.List.{length-map}
 use Rattle.mdr_core.specs.declared.value.Block.{Block}
 use Rattle.mdr_core.specs.declared.value.Value.{Value}
@@ -28,7 +28,7 @@ contents hs slots values lives = record { handles = hs; memory = blocks_of hs (h
 module _ (hs : List Block) (slots slots' : RowSlots) (values : List Value) (lives : List Life) (births : ℕ) (k : AreKept hs slots values lives births)
     (fresh : AreBelow births (laid lives).marks) (next : births ≡ (laid lives).births) (high : length values ≡ length (laid lives).marks)
     (b : Block) (r : Row) (first : List Value)
-    (new : b.serial ≡ births) (born : r.born.serial ≡ b.serial) (size : r.cells ≡ length first) (some : 0 < length first)
+    (new : b.serial ≡ births) (born : r.born.serial ≡ b.serial) (size : r.cells ≡ length first)
     (vacant : row_in slots b.slot ≡ None) (there : row_in slots' b.slot ≡ Some r) (others : (slot : ℕ) → slot ≢ b.slot → row_in slots' slot ≡ row_in slots slot)
     (lies : IsBlock (laid (lives ++ life.Birth (length first) ∷ [])).marks births r.start (length first))
   where
@@ -41,23 +41,20 @@ module _ (hs : List Block) (slots slots' : RowSlots) (values : List Value) (live
     lies' : IsBlock (laid (lives ++ life.Birth (length (map (current hs) first)) ∷ [])).marks births r.start (length (map (current hs) first))
     lies' = subst (λ n. IsBlock (laid (lives ++ life.Birth n ∷ [])).marks births r.start n) (sym long) lies
 
-    some' : 0 < length (map (current hs) first)
-    some' = omega (arith, long, some)
-
     old : AreOld births (map (current hs) first)
     old = currents-old hs births k.memory.below first
 
     pub region-born : AreKept (hs ++ b ∷ []) slots' (written r.start (map (current hs) first) values) (lives ++ life.Birth (length first) ∷ []) (births + 1)
     region-born = subst (λ n. AreKept (hs ++ b ∷ []) slots' (written r.start (map (current hs) first) values) (lives ++ life.Birth n ∷ []) (births + 1)) long
-        (kept-born hs slots slots' values lives births k fresh next high b r (map (current hs) first) new born (size ∙ sym long) some' vacant there others lies' old)
+        (kept-born hs slots slots' values lives births k fresh next high b r (map (current hs) first) new born (size ∙ sym long) vacant there others lies' old)
 
     pub contents-born : contents (hs ++ b ∷ []) slots' (written r.start (map (current hs) first) values) (lives ++ life.Birth (length first) ∷ [])
         ≡ with_block b (record { born = r.born; cells = map (wire_in hs) first }) (length first) (contents hs slots values lives)
     contents-born = same_contents refl
         (blocks-added hs (held_slots values slots) (held_slots (written r.start (map (current hs) first) values) slots') lives births (length lives + length hs) k.memory b (record { born = r.born; cells = map (current hs) first }) new
         (no-held hs slots values lives births k b.slot vacant)
-        (born-there hs slots slots' values lives births k fresh next high b r (map (current hs) first) new born (size ∙ sym long) some' vacant there others lies')
-        (born-others hs slots slots' values lives births k fresh next high b r (map (current hs) first) new born (size ∙ sym long) some' vacant there others lies') old
+        (born-there hs slots slots' values lives births k fresh next high b r (map (current hs) first) new born (size ∙ sym long) vacant there others lies')
+        (born-others hs slots slots' values lives births k fresh next high b r (map (current hs) first) new born (size ∙ sym long) vacant there others lies') old
         ∙ ap (λ ws. blocks_of hs (held_slots values slots) hs ++ record { born = r.born; cells = ws } ∷ []) (wires-current hs first))
         refl
 

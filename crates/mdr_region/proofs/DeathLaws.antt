@@ -159,10 +159,10 @@ parted_here s (suc n) (Some t ∷ ms) h =
       ap (λ x. cond x None (Some t) ∷ map (freed s) ms) here ∙ ap (λ x. None ∷ x) later.1,
     )
 
-pub parted : (s start n : ℕ) (ms : List Mark) → 0 < n → ((q : ℕ) → names s (get_or ms q None) ≡ inside start n q) → Parted s start n ms
-parted s zero n ms pos h = let e : n ≡ zero + n = omega arith in let here = parted_here s n ms (λ q. grind (arith, nat_tests, h q)) in record { whole = here.0 ∙ ap (λ x. replicate n (Some s) ++ drop x ms) e; without = here.1 ∙ ap (λ x. replicate n None ++ drop x ms) e; front = refl }
-parted s (suc start) n [] pos h = grind (arith, nat_tests, h (suc start))
-parted s (suc start) n (m ∷ ms) pos h = of m (h 0) (parted s start n ms pos (λ q. grind (arith, nat_tests, h (suc q))))
+pub parted : (s start n : ℕ) (ms : List Mark) → (n ≡ 0 → start ≡ 0) → ((q : ℕ) → names s (get_or ms q None) ≡ inside start n q) → Parted s start n ms
+parted s zero n ms low h = let e : n ≡ zero + n = omega arith in let here = parted_here s n ms (λ q. grind (arith, nat_tests, h q)) in record { whole = here.0 ∙ ap (λ x. replicate n (Some s) ++ drop x ms) e; without = here.1 ∙ ap (λ x. replicate n None ++ drop x ms) e; front = refl }
+parted s (suc start) n [] low h = let none : n ≡ 0 = grind (arith, nat_tests, h (suc start)) in absurd (omega (arith, low none))
+parted s (suc start) n (m ∷ ms) low h = of m (h 0) (parted s start n ms (λ e. absurd (omega (arith, low e))) (λ q. grind (arith, nat_tests, h (suc q))))
   where
     of : (x : Mark) → names s x ≡ inside (suc start) n 0 → Parted s start n ms → Parted s (suc start) n (x ∷ ms)
     of None g later = let e : suc (start + n) ≡ suc start + n = omega arith in record {
@@ -250,7 +250,7 @@ length_map s (m ∷ ms) = ap suc (length_map s ms)
 pub left_holes : (s start n : ℕ) (ms : List Mark) → 0 < n → ((q : ℕ) → names s (get_or ms q None) ≡ inside start n q)
     → (holes_of 0 (left s ms) ≡ below (length ms) (returned (hole start n) (holes_of 0 ms))) × (length (left s ms) ≡ lowered (length ms) (returned (hole start n) (holes_of 0 ms)))
 left_holes s start n ms pos h =
-    let parts = parted s start n ms pos h in
+    let parts = parted s start n ms (λ e. absurd (omega (arith, pos, e))) h in
     let cut = trimmed_holes 0 (length ms) (map (freed s) ms) (omega (arith, length_map s ms)) in
     let back : holes_of 0 (map (freed s) ms) ≡ returned (hole start n) (holes_of 0 ms) =
     ap (holes_of 0) parts.without
@@ -268,9 +268,9 @@ used_trimmed (m ∷ ms) = of m (trimmed ms) (used_trimmed ms)
     of None (y ∷ xs) e = e
     of (Some s) xs e = ap (λ x. x + 1) e
 
-pub left_used : (s start n : ℕ) (ms : List Mark) → 0 < n → ((q : ℕ) → names s (get_or ms q None) ≡ inside start n q) → used (left s ms) + n ≡ used ms
-left_used s start n ms pos h =
-    let parts = parted s start n ms pos h in
+pub left_used : (s start n : ℕ) (ms : List Mark) → (n ≡ 0 → start ≡ 0) → ((q : ℕ) → names s (get_or ms q None) ≡ inside start n q) → used (left s ms) + n ≡ used ms
+left_used s start n ms low h =
+    let parts = parted s start n ms low h in
     let a = take start ms in
     let b = drop (start + n) ms in
     omega (arith, used_trimmed (map (freed s) ms), ap used parts.without, ap used parts.whole, used_append a (replicate n None ++ b), used_append (replicate n None) b, used_free n, used_append a (replicate n (Some s) ++ b), used_append (replicate n (Some s)) b, used_taken s n)

@@ -1,15 +1,17 @@
 -- What the code keeps, after a birth and after a death.
 use Rattle.std.proofs.Common.{◌≡◌, ◌<◌, ◌≤◌, ◌+◌, ◌-◌, ℕ, Bool, true, false, cond, List, [], ◌∷◌, ◌++◌, map, length, get_or, take, drop, replicate, Some, None, refl, sym, ◌∙◌, ap, subst, arith}
+use Rattle.std.proofs.lemmas.Bool.Decides.{nat_tests}
 use Rattle.std.proofs.lemmas.List.{length-append, length-replicate}
 use Rattle.mdr_region.specs.declared.holes.Hole.{Hole}
 use Rattle.mdr_mem.specs.declared.cells.Life.{Life}
 use Rattle.mdr_mem.specs.declared.cells.Life.TheVariants as life
-use Rattle.mdr_region.specs.Layout.{Mark, placed, freed, used, Laid, after, laid_from, laid}
+use Rattle.mdr_region.specs.Layout.{Mark, are_free, placed, freed, used, Laid, after, laid_from, laid}
 use Rattle.mdr_region.specs.Holes.{hole, holes_of, Rise, found, cut, start_of, risen, front, returned, below, lowered, names}
 use Rattle.mdr_region.specs.Blocks.{IsBlock, blocks, ends, AreBelow, IsKept}
 use Rattle.mdr_region.proofs.MarkLaws.{holes_rise}
 use Rattle.mdr_region.proofs.BirthLaws.{placed_holes, placed_front, placed_length, placed_used}
 use Rattle.mdr_region.proofs.DeathLaws.{parted, left_holes, left_used, returned_holes, length_map}
+use Rattle.mdr_region.proofs.CellLaws.{block_inside}
 use Rattle.mdr_region.proofs.BlockLaws.{below_birth, below_death, block_born, blocks_birth, blocks_death, blocks_without, most_holes, left_same}
 
 laid_more_from : (s : Laid) (lives : List Life) (l : Life) → laid_from s (lives ++ l ∷ []) ≡ after (laid_from s lives) l
@@ -77,7 +79,32 @@ birth_block lives holes capacity top taken births live n k pos =
     sym a ∙ (sym f ∙ (ap (λ x. start_of x (found n (holes_of 0 marks))) (sym b) ∙ ap (λ x. start_of top (found n x)) (sym k.free))) in
     subst (λ s. IsBlock s.marks births (start_of top (found n holes)) n) (sym (laid_more lives (life.Birth n)))
     (subst (λ x. IsBlock (placed x n marks) births (start_of top (found n holes)) n) k.next
-    (subst (λ x. IsBlock (placed births n marks) births x n) where_it_is (block_born births n marks pos k.fresh)))
+    (subst (λ x. IsBlock (placed births n marks) births x n) where_it_is (block_born births n marks k.fresh)))
+
+-- a birth of a block without cells leaves marks as they are
+placed_none : (s : ℕ) (marks : List Mark) → placed s 0 marks ≡ marks
+unfolding placed are_free
+placed_none s [] = refl
+placed_none s (m ∷ marks) = refl
+
+laid_none : (lives : List Life) → laid (lives ++ life.Birth 0 ∷ []) ≡ record { births = (laid lives).births + 1; marks = (laid lives).marks }
+laid_none lives = laid_more lives (life.Birth 0) ∙ ap (λ x. record { births = (laid lives).births + 1; marks = x }) (placed_none (laid lives).births (laid lives).marks)
+
+pub kept_birth_none : (lives : List Life) (holes : List Hole) (capacity top taken births live : ℕ) → IsKept lives holes capacity top taken births live → IsKept (lives ++ life.Birth 0 ∷ []) holes capacity top taken (births + 1) live
+kept_birth_none lives holes capacity top taken births live k =
+    kept_of _ _ _ _ _ _ _ (subst (λ s. Keeps s holes capacity top taken (births + 1) live) (sym (laid_none lives)) (record {
+      free = k.free;
+      height = k.height;
+      filled = k.filled;
+      next = ap (λ x. x + 1) k.next;
+      counted = k.counted;
+      fresh = λ q t h. omega (arith, k.fresh q t h);
+      roomy = k.roomy;
+    }))
+
+pub block_none : (lives : List Life) (holes : List Hole) (capacity top taken births live : ℕ) → IsKept lives holes capacity top taken births live → IsBlock (laid (lives ++ life.Birth 0 ∷ [])).marks births 0 0
+block_none lives holes capacity top taken births live k =
+    subst (λ s. IsBlock s.marks births 0 0) (sym (laid_none lives)) (record { none = λ e. refl; places = λ q. nowhere births (laid lives).marks k.fresh q ∙ grind (arith, nat_tests) })
 
 used_length : (marks : List Mark) → used marks ≤ length marks
 used_length [] = omega arith
@@ -90,7 +117,7 @@ birth_fills lives holes capacity top taken births live n k pos =
     let marks = (laid lives).marks in
     omega (arith, k.height, k.filled, ap (λ x. risen n (found n x)) k.free, placed_length 0 n 0 (length marks) marks pos (omega arith), placed_used 0 n marks, used_length (placed 0 n marks))
 
--- what a death asks for
+-- what the death of a block with cells asks for
 pub record Leaves (holes : List Hole) (capacity top taken live start n : ℕ) : Type 0 where
   pub low : start + n ≤ top
   pub fewer : n ≤ taken
@@ -98,20 +125,20 @@ pub record Leaves (holes : List Hole) (capacity top taken live start n : ℕ) : 
   pub room : length (returned (hole start n) holes) ≤ capacity
   pub rise : Rise 0 top (returned (hole start n) holes)
 
-pub death_leaves : (lives : List Life) (holes : List Hole) (capacity top taken births live s start n : ℕ) → IsKept lives holes capacity top taken births live → IsBlock (laid lives).marks s start n
+pub death_leaves : (lives : List Life) (holes : List Hole) (capacity top taken births live s start n : ℕ) → IsKept lives holes capacity top taken births live → 0 < n → IsBlock (laid lives).marks s start n
     → Leaves holes capacity top taken live start n
-death_leaves lives holes capacity top taken births live s start n k b =
+death_leaves lives holes capacity top taken births live s start n k pos b =
     let marks = (laid lives).marks in
-    let parts = parted s start n marks b.some b.places in
+    let parts = parted s start n marks b.none b.places in
     let back : holes_of 0 (map (freed s) marks) ≡ returned (hole start n) holes =
     ap (holes_of 0) parts.without
-    ∙ (returned_holes s n 0 start (length marks) (take start marks) (drop (start + n) marks) b.some (omega (arith, parts.front)) (omega (arith, ap length parts.whole))
+    ∙ (returned_holes s n 0 start (length marks) (take start marks) (drop (start + n) marks) pos (omega (arith, parts.front)) (omega (arith, ap length parts.whole))
     ∙ ap (λ x. returned (hole start n) x) (ap (holes_of 0) (sym parts.whole) ∙ sym k.free)) in
     record {
       low = omega (arith, k.height, ap length parts.whole, length-append (take start marks) (replicate n (Some s) ++ drop (start + n) marks), length-append (replicate n (Some s)) (drop (start + n) marks), length-replicate n (Some s), parts.front);
-      fewer = omega (arith, k.filled, left_used s start n marks b.some b.places);
-      some = omega (arith, k.counted, blocks_death s start n marks b);
-      room = few (ends None (map (freed s) marks)) (omega (arith, ap length back, most_holes 0 None (map (freed s) marks))) (omega (arith, k.counted, k.roomy, blocks_without s start n marks b));
+      fewer = omega (arith, k.filled, left_used s start n marks b.none b.places);
+      some = omega (arith, k.counted, blocks_death s start n marks pos b);
+      room = few (ends None (map (freed s) marks)) (omega (arith, ap length back, most_holes 0 None (map (freed s) marks))) (omega (arith, k.counted, k.roomy, blocks_without s start n marks pos b));
       rise = subst (λ x. Rise 0 top x) back (holes_rise 0 top (map (freed s) marks) (omega (arith, k.height, length_map s marks)));
     }
   where
@@ -119,17 +146,17 @@ death_leaves lives holes capacity top taken births live s start n k b =
     few true a c = omega (arith, a, c)
     few false a c = omega (arith, a, c)
 
-pub kept_death : (lives : List Life) (holes : List Hole) (capacity more top taken births live s start n : ℕ) → IsKept lives holes capacity top taken births live → capacity ≤ more → IsBlock (laid lives).marks s start n
+pub kept_death : (lives : List Life) (holes : List Hole) (capacity more top taken births live s start n : ℕ) → IsKept lives holes capacity top taken births live → capacity ≤ more → 0 < n → IsBlock (laid lives).marks s start n
     → IsKept (lives ++ life.Death s ∷ []) (below top (returned (hole start n) holes)) more (lowered top (returned (hole start n) holes)) (taken - n) births (live - 1)
-kept_death lives holes capacity more top taken births live s start n k room b =
+kept_death lives holes capacity more top taken births live s start n k room pos b =
     let marks = (laid lives).marks in
-    let h = left_holes s start n marks b.some b.places in
+    let h = left_holes s start n marks pos b.places in
     kept_of _ _ _ _ _ _ _ (subst (λ x. Keeps x (below top (returned (hole start n) holes)) more (lowered top (returned (hole start n) holes)) (taken - n) births (live - 1)) (sym (laid_more lives (life.Death s))) (record {
       free = ap (λ x. below x (returned (hole start n) holes)) k.height ∙ (ap (λ x. below (length marks) (returned (hole start n) x)) k.free ∙ sym h.0);
       height = ap (λ x. lowered x (returned (hole start n) holes)) k.height ∙ (ap (λ x. lowered (length marks) (returned (hole start n) x)) k.free ∙ sym h.1);
-      filled = omega (arith, k.filled, left_used s start n marks b.some b.places);
+      filled = omega (arith, k.filled, left_used s start n marks b.none b.places);
       next = k.next;
-      counted = omega (arith, k.counted, blocks_death s start n marks b);
+      counted = omega (arith, k.counted, blocks_death s start n marks pos b);
       fresh = below_death births s marks k.fresh;
       roomy = omega (arith, k.roomy, room);
     }))
@@ -138,5 +165,11 @@ kept_death lives holes capacity more top taken births live s start n k room b =
 pub stale_death : (s : ℕ) (lives : List Life) → ((q : ℕ) → names s (get_or (laid lives).marks q None) ≡ false) → laid (lives ++ life.Death s ∷ []) ≡ laid lives
 stale_death s lives h = laid_more lives (life.Death s) ∙ ap (λ x. record { births = (laid lives).births; marks = x }) (left_same s lives h)
 
+-- the death of a block without cells
+pub kept_death_none : (lives : List Life) (holes : List Hole) (capacity top taken births live s start : ℕ) → IsKept lives holes capacity top taken births live → IsBlock (laid lives).marks s start 0 → IsKept (lives ++ life.Death s ∷ []) holes capacity top taken births live
+kept_death_none lives holes capacity top taken births live s start k b =
+    let gone : laid (lives ++ life.Death s ∷ []) ≡ laid lives = stale_death s lives (λ q. b.places q ∙ grind (arith, nat_tests)) in
+    kept_of _ _ _ _ _ _ _ (subst (λ x. Keeps x holes capacity top taken births live) (sym gone) (record { free = k.free; height = k.height; filled = k.filled; next = k.next; counted = k.counted; fresh = k.fresh; roomy = k.roomy }))
+
 pub block_low : (lives : List Life) (holes : List Hole) (capacity top taken births live s start n : ℕ) → IsKept lives holes capacity top taken births live → IsBlock (laid lives).marks s start n → start + n ≤ top
-block_low lives holes capacity top taken births live s start n k b = (death_leaves lives holes capacity top taken births live s start n k b).low
+block_low lives holes capacity top taken births live s start n k b = omega (arith, k.height, block_inside (laid lives).marks s start n b)

@@ -32,9 +32,12 @@ handle slot serial = record { slot = slot; serial = serial }
 
 -- two blocks of one serial begin at one place
 pub one_start : (marks : List Mark) (s a b m n : ℕ) → IsBlock marks s a m → IsBlock marks s b n → a ≡ b
-one_start marks s a b m n x y =
-    let at_a : inside b n a ≡ true = sym (y.places a) ∙ (x.places a ∙ grind (arith, nat_tests, x.some)) in
-    let at_b : inside a m b ≡ true = sym (x.places b) ∙ (y.places b ∙ grind (arith, nat_tests, y.some)) in
+one_start marks s a b zero zero x y = x.none refl ∙ sym (y.none refl)
+one_start marks s a b zero (suc n) x y = grind (arith, nat_tests, x.places b, y.places b)
+one_start marks s a b (suc m) zero x y = grind (arith, nat_tests, x.places a, y.places a)
+one_start marks s a b (suc m) (suc n) x y =
+    let at_a : inside b (suc n) a ≡ true = sym (y.places a) ∙ (x.places a ∙ grind (arith, nat_tests)) in
+    let at_b : inside a (suc m) b ≡ true = sym (x.places b) ∙ (y.places b ∙ grind (arith, nat_tests)) in
     grind (arith, nat_tests, at_a, at_b)
 
 -- values past the end are not put
@@ -82,7 +85,7 @@ module _ (hs : List Block) (slots : RowSlots) (values : List Value) (lives : Lis
 module _ (hs : List Block) (slots slots' : RowSlots) (values : List Value) (lives : List Life) (births : ℕ) (k : AreKept hs slots values lives births)
     (fresh : AreBelow births (marks_of lives)) (next : births ≡ (laid lives).births) (high : length values ≡ length (marks_of lives))
     (b : Block) (r : Row) (first : List Value)
-    (new : b.serial ≡ births) (born : r.born.serial ≡ b.serial) (size : r.cells ≡ length first) (some : 0 < length first)
+    (new : b.serial ≡ births) (born : r.born.serial ≡ b.serial) (size : r.cells ≡ length first)
     (vacant : row_in slots b.slot ≡ None) (there : row_in slots' b.slot ≡ Some r) (others : (slot : ℕ) → slot ≢ b.slot → row_in slots' slot ≡ row_in slots slot)
     (lies : IsBlock (marks_of (lives ++ life.Birth (length first) ∷ [])) births r.start (length first))
   where
@@ -91,7 +94,7 @@ module _ (hs : List Block) (slots slots' : RowSlots) (values : List Value) (live
 
     starts : r.start ≡ front (length first) (marks_of lives)
     starts = one_start (placed births (length first) (marks_of lives)) births r.start (front (length first) (marks_of lives)) (length first) (length first)
-        (subst (λ m. IsBlock m births r.start (length first)) marks-born lies) (block_born births (length first) (marks_of lives) some fresh)
+        (subst (λ m. IsBlock m births r.start (length first)) marks-born lies) (block_born births (length first) (marks_of lives) fresh)
 
     low : r.start ≤ length values
     low = omega (arith, block_low, high)
@@ -106,7 +109,7 @@ module _ (hs : List Block) (slots slots' : RowSlots) (values : List Value) (live
         of None e l = refl
         of (Some q) e l = ap (λ cs. Some (record { born = q.born; cells = cs }))
             (ap (λ n. cells_of q.start q.cells (written n first values)) starts
-            ∙ cells_stay.birth births q.born.serial q.start q.cells (marks_of lives) first values some high fresh (row-old hs slots values lives births k slot q e) l)
+            ∙ cells_stay.birth births q.born.serial q.start q.cells (marks_of lives) first values high fresh (row-old hs slots values lives births k slot q e) l)
 
     pub born-others : (slot : ℕ) → slot ≢ b.slot → in_slot (held_slots (written r.start first values) slots') slot ≡ in_slot (held_slots values slots) slot
     born-others slot away = slot-map (written r.start first values) slots' slot ∙ (ap (held_as (written r.start first values)) (others slot away) ∙ (stays slot ∙ sym (slot-map values slots slot)))

@@ -10,9 +10,9 @@ use Rattle.mdr_region.specs.Holes.{holes_of, names, inside}
 abbrev pub mark_at : List Mark → ℕ → Mark
 mark_at marks place = slice_index_or marks place None
 
--- a block lies at just these places
+-- a block lies at just these places; one without cells lies nowhere, and begins at 0
 pub record IsBlock (marks : List Mark) (serial start cells : ℕ) : Type 0 where
-  pub some : 0 < cells
+  pub none : cells ≡ 0 → start ≡ 0
   pub places : (place : ℕ) → names serial (mark_at marks place) ≡ inside start cells place
 
 -- how many blocks there are: each begins where the mark is another than that before

@@ -19,13 +19,13 @@ pub record BirthsTakeHoles : Type 0 where
 
 -- after the death of a block its places are one hole with those that they touch, and what is free at the top is none
 pub record DeathsLeaveHoles : Type 0 where
-  pub holes : (serial start n : ℕ) (marks : List Mark) → IsBlock marks serial start n → holes_of 0 (left serial marks) ≡ below (length marks) (returned (hole start n) (holes_of 0 marks))
-  pub top : (serial start n : ℕ) (marks : List Mark) → IsBlock marks serial start n → length (left serial marks) ≡ lowered (length marks) (returned (hole start n) (holes_of 0 marks))
+  pub holes : (serial start n : ℕ) (marks : List Mark) → 0 < n → IsBlock marks serial start n → holes_of 0 (left serial marks) ≡ below (length marks) (returned (hole start n) (holes_of 0 marks))
+  pub top : (serial start n : ℕ) (marks : List Mark) → 0 < n → IsBlock marks serial start n → length (left serial marks) ≡ lowered (length marks) (returned (hole start n) (holes_of 0 marks))
   pub count : (serial start n : ℕ) (marks : List Mark) → IsBlock marks serial start n → used (left serial marks) + n ≡ used marks
 
 -- a block lies where it was born, and no other birth or death moves it
 pub record BlocksStay : Type 0 where
-  pub born : (births n : ℕ) (marks : List Mark) → 0 < n → AreBelow births marks → IsBlock (placed births n marks) births (front n marks) n
+  pub born : (births n : ℕ) (marks : List Mark) → AreBelow births marks → IsBlock (placed births n marks) births (front n marks) n
   pub birth : (births n serial start cells : ℕ) (marks : List Mark) → serial < births → IsBlock marks serial start cells → IsBlock (placed births n marks) serial start cells
   pub death : (dead serial start cells : ℕ) (marks : List Mark) → dead ≢ serial → IsBlock marks serial start cells → IsBlock (left dead marks) serial start cells
 
@@ -42,7 +42,7 @@ StaleDeaths = (serial : ℕ) (lives : List Life) → ((place : ℕ) → names se
 -- a birth writes its own cells, and the others' stay; a death leaves all others'; a store changes its one cell
 pub record CellsStay : Type 0 where
   pub own : (start : ℕ) (first values : List Value) → start ≤ length values → cells_of start (length first) (written start first values) ≡ first
-  pub birth : (births serial start cells : ℕ) (marks : List Mark) (first values : List Value) → 0 < length first → length values ≡ length marks → AreBelow births marks → serial < births → IsBlock marks serial start cells
+  pub birth : (births serial start cells : ℕ) (marks : List Mark) (first values : List Value) → length values ≡ length marks → AreBelow births marks → serial < births → IsBlock marks serial start cells
       → cells_of start cells (written (front (length first) marks) first values) ≡ cells_of start cells values
   pub death : (dead serial start cells : ℕ) (marks : List Mark) (values : List Value) → IsBlock (left dead marks) serial start cells → cells_of start cells (take (length (left dead marks)) values) ≡ cells_of start cells values
   pub stored : (start cell n : ℕ) (v : Value) (values : List Value) → cells_of start n (slice_set values (start + cell) v) ≡ slice_set (cells_of start n values) cell v

@@ -9,7 +9,7 @@ ghost use Rattle.mdr_region.specs.PlacesView.{AreSound, Fits};
 
 use crate::holes::{Hole, drop_top, first_of, give_back, take_first};
 use crate::lives::Lives;
-use mdr_core::{Limit, OutOfMemory};
+use mdr_core::{Limit, OutOfMemory, below};
 use std::alloc::Global;
 
 // Where a block begins, and where the top is with it.
@@ -137,6 +137,27 @@ impl Places {
         Ok(placed.start)
     }
 
+    /// A block without cells is born. It takes no place.
+    pub fn birth_of_none(&mut self) -> Result<(), OutOfMemory>
+        requires { AreSound self.old }
+        ensures sound { AreSound self.new }
+        ensures born { OnOk result (self.new.lives ≡ self.old.lives ++ life.Birth 0 ∷ []) }
+        ensures block { OnOk result (IsBlock (laid self.new.lives).marks self.old.births 0 0) }
+        ensures top { self.new.top ≡ self.old.top }
+        ensures births { OnOk result (self.new.births ≡ self.old.births + 1) }
+        ensures same_births { OnErr result (self.new.births ≡ self.old.births) }
+        ensures as_before { OnErr result (self.new.lives ≡ self.old.lives) }
+        ensures live { self.new.live ≡ self.old.live }
+        ensures holes { vec_capacity self.new.holes ≡ vec_capacity self.old.holes }
+        ensures fits { OnOk result (self.new.births < 2 ^ 64) }
+        ensures succeeds { self.old.births < 2 ^ 64 - 1 → IsOk result }
+    {
+        below(self.births, Limit::Births)?;
+        self.births += 1;
+        self.lives = self.lives.and_birth(0);
+        Ok(())
+    }
+
     /// Ends the block at these places.
     pub fn death(&mut self, serial: u64, start: usize, cells: u32)
         requires sound { AreSound self.old }
@@ -147,6 +168,10 @@ impl Places {
         ensures spare_births { vec_capacity self.old.holes + self.new.live ≤ vec_capacity self.new.holes + self.old.live }
         ensures births { self.new.births ≡ self.old.births }
     {
+        if cells == 0 {
+            self.lives = self.lives.and_death(serial);
+            return;
+        }
         give_back(&mut self.holes, start, cells as usize, self.top);
         self.top = drop_top(&mut self.holes, self.top);
         self.taken -= cells as usize;

@@ -52,7 +52,7 @@ impl Pool {
     fn birth_in_hole(&mut self, first: &[Value]) -> Result<usize, OutOfMemory>
         requires sound { IsSound self.old }
         requires some { 0 < length first.now }
-        requires few { length first.now ≤ 65536 }
+        requires few { length first.now ≤ 4294967295 }
         requires hole { is_some (found (length first.now) self.old.places.holes.items) ≡ true }
         ensures sound { IsSound self.new }
         ensures born { OnOk result (self.new.places.lives ≡ self.old.places.lives ++ life.Birth (length first.now) ∷ []) }
@@ -80,7 +80,7 @@ impl Pool {
     fn birth_at_top(&mut self, first: &[Value]) -> Result<usize, OutOfMemory>
         requires sound { IsSound self.old }
         requires some { 0 < length first.now }
-        requires few { length first.now ≤ 65536 }
+        requires few { length first.now ≤ 4294967295 }
         requires no_hole { is_some (found (length first.now) self.old.places.holes.items) ≡ false }
         ensures sound { IsSound self.new }
         ensures born { OnOk result (self.new.places.lives ≡ self.old.places.lives ++ life.Birth (length first.now) ∷ []) }
@@ -107,11 +107,31 @@ impl Pool {
         Ok(start)
     }
 
+    // A birth of a block without cells.
+    fn birth_of_none(&mut self) -> Result<usize, OutOfMemory>
+        requires { IsSound self.old }
+        ensures sound { IsSound self.new }
+        ensures born { OnOk result (self.new.places.lives ≡ self.old.places.lives ++ life.Birth 0 ∷ []) }
+        ensures block { IfOk result (λ start. IsBlock (laid self.new.places.lives).marks self.old.places.births start 0) }
+        ensures start { IfOk result (λ start. start ≡ 0) }
+        ensures values { self.new.values.items ≡ self.old.values.items }
+        ensures as_before { OnErr result (self.new.places.lives ≡ self.old.places.lives) }
+        ensures cells_left { self.new.cells_left ≡ self.old.cells_left }
+        ensures births_left { OnOk result (self.new.births_left ≡ self.old.births_left - 1) }
+        ensures same_births { OnErr result (self.new.births_left ≡ self.old.births_left) }
+        ensures serials { OnOk result (self.new.places.births ≡ self.old.places.births + 1) }
+        ensures same_serials { OnErr result (self.new.places.births ≡ self.old.places.births) }
+        ensures succeeds { 0 < self.old.births_left → IsOk result }
+    {
+        self.places.birth_of_none()?;
+        self.births_left = self.births_left.saturating_sub(1);
+        Ok(0)
+    }
+
     /// A new block with these first values, and where it begins. What was reserved is enough for it.
     pub fn birth(&mut self, first: &[Value]) -> Result<usize, OutOfMemory>
         requires sound { IsSound self.old }
-        requires some { 0 < length first.now }
-        requires few { length first.now ≤ 65536 }
+        requires few { length first.now ≤ 4294967295 }
         ensures sound { IsSound self.new }
         ensures born { OnOk result (self.new.places.lives ≡ self.old.places.lives ++ life.Birth (length first.now) ∷ []) }
         ensures block { IfOk result (λ start. IsBlock (laid self.new.places.lives).marks self.old.places.births start (length first.now)) }
@@ -127,7 +147,9 @@ impl Pool {
         ensures same_serials { OnErr result (self.new.places.births ≡ self.old.places.births) }
         ensures succeeds { length first.now ≤ self.old.cells_left → 0 < self.old.births_left → IsOk result }
     {
-        if self.places.has_hole(first.len()) {
+        if first.is_empty() {
+            self.birth_of_none()
+        } else if self.places.has_hole(first.len()) {
             self.birth_in_hole(first)
         } else {
             self.birth_at_top(first)

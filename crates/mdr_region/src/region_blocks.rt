@@ -1,8 +1,8 @@
 // A region under the contract of the plain memory.
 
-ghost use Rattle.std.specs.Prelude.{◌≡◌, ℕ, [], None, IsTrue, map, option_copied, option_map, slice_get};
+ghost use Rattle.std.specs.Prelude.{◌≡◌, ◌≤◌, ℕ, [], None, IsTrue, IfOk, OnErr, length, map, option_copied, option_map, slice_get};
 ghost use Rattle.mdr_model.specs.Memory.{cell_at};
-ghost use Rattle.mdr_mem.specs.Contents.{after_store, cell_in, is_handle, wire_in};
+ghost use Rattle.mdr_mem.specs.Contents.{after_birth, after_store, births_in, cell_in, is_handle, wire_in};
 ghost use Rattle.mdr_region.specs.Layout.{layout_of};
 
 use crate::rows::Rows;
@@ -85,13 +85,19 @@ impl Cells for RegionBlocks {
 
     ghost touchable = { λ s. None };
 
+    /// A block may have no cell, and as many as can be counted.
     fn birth(
         &mut self,
         _alloc: Global,
         kind: BirthKind,
         shape: Shape,
         first: &[Value],
-    ) -> Result<Block, OutOfMemory> {
+    ) -> Result<Block, OutOfMemory>
+        requires few { length first.now ≤ 4294967295 }
+        ensures next { IfOk result (λ b. b.serial ≡ births_in self.old.lives) }
+        ensures born { IfOk result (λ b. self.new ≡ after_birth kind shape first.now b self.old) }
+        ensures as_before { OnErr result (self.new ≡ self.old) }
+    {
         self.rows.birth(kind, shape, first)
     }
 

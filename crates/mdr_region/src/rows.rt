@@ -94,8 +94,7 @@ impl Rows {
         first: &[Value],
     ) -> Result<Block, OutOfMemory>
         requires whole { IsWhole self.old }
-        requires some { 0 < length first.now }
-        requires few { length first.now ≤ 65536 }
+        requires few { length first.now ≤ 4294967295 }
         ensures whole { IsWhole self.new }
         ensures next { IfOk result (λ b. b.serial ≡ births_in self.old.pool.places.lives) }
         ensures born { IfOk result (λ b. contents_of self.new ≡ after_birth kind shape first.now b (contents_of self.old)) }

@@ -8,7 +8,7 @@ ghost use Rattle.mdr_region.specs.Layout.{laid};
 ghost use Rattle.mdr_world.specs.Stored.{AreMarked, IsCounted};
 
 use crate::lives::Lives;
-use mdr_core::{Block, OutOfMemory, Shape, Value};
+use mdr_core::{Block, Limit, OutOfMemory, Shape, Value, within};
 use mdr_mem::Cells;
 use mdr_model::BirthKind;
 use mdr_region::RegionBlocks;
@@ -33,8 +33,7 @@ impl Storage {
         }
     }
 
-    /// A block more, with these first values. A block that is too large answers want of memory, and so does one without
-    /// cells.
+    /// A block more, with these first values. More of them than can be counted are too many.
     pub fn add(
         &mut self,
         alloc: Global,
@@ -48,12 +47,7 @@ impl Storage {
         ensures memory { IfOk result (λ b. self.new.blocks.memory ≡ self.old.blocks.memory ++ new_block kind shape first.now b self.old.blocks.handles ∷ []) }
         ensures lives { OnOk result (self.new.lives ≡ self.old.lives ++ life.Birth (length first.now) ∷ []) }
     {
-        if first.is_empty() {
-            return Err(OutOfMemory::unmet());
-        }
-        if first.len() > 65536 {
-            return Err(OutOfMemory::unmet());
-        }
+        within(first.len() as u64, Limit::Cells)?;
         let block = self.blocks.birth(alloc, kind, shape, first)?;
         self.lives = with_birth(&self.lives, first.len() as u32);
         Ok(block)

@@ -32,7 +32,7 @@ returns-clause-whole c =
     record {
       kept = rw (c.push_reserved.ensures.items, values, c.in_ok-start.ensures.born, c.in_ok-start.ensures.serials)
           (region-born m.live.items m.rows.slots c.insert_reserved.new.self.slots m.pool.values.items m.pool.places.lives m.pool.places.births w.kept w.pool.places.fresh w.pool.places.next (w.pool.cells ∙ w.pool.places.height)
-          block _ first (c.in_ok-block.ensures.serial ∙ ap (λ (p : Pool). p.places.births) (sym c.next_handle.ensures.pool)) refl refl c.requires.some
+          block _ first (c.in_ok-block.ensures.serial ∙ ap (λ (p : Pool). p.places.births) (sym c.next_handle.ensures.pool)) refl refl
           (rw key at c.insert_reserved.ensures.was_vacant) (rw key at c.insert_reserved.ensures.updates.changed) (λ n k. c.insert_reserved.ensures.updates.others n (λ e. k (e ∙ key)))
           (subst (λ ls. IsBlock (laid ls).marks m.pool.places.births start (length first)) c.in_ok-start.ensures.born c.in_ok-start.ensures.block));
       pool = record {
@@ -66,7 +66,7 @@ returns-clause-born c =
       lives = c.in_ok-start.ensures.born i;
     })
     ∙ (contents-born m.live.items m.rows.slots c.insert_reserved.new.self.slots m.pool.values.items m.pool.places.lives m.pool.places.births w.kept w.pool.places.fresh w.pool.places.next (w.pool.cells ∙ w.pool.places.height)
-    block (record { born = born_as c.args.kind c.args.shape block; start = start; cells = length first }) first (c.in_ok-block.ensures.serial ∙ ap (λ (p : Pool). p.places.births) (sym c.next_handle.ensures.pool)) refl refl c.requires.some
+    block (record { born = born_as c.args.kind c.args.shape block; start = start; cells = length first }) first (c.in_ok-block.ensures.serial ∙ ap (λ (p : Pool). p.places.births) (sym c.next_handle.ensures.pool)) refl refl
     (rw key at c.insert_reserved.ensures.was_vacant) (rw key at c.insert_reserved.ensures.updates.changed) (λ n k. c.insert_reserved.ensures.updates.others n (λ e. k (e ∙ key)))
     (subst (λ ls. IsBlock (laid ls).marks m.pool.places.births start (length first)) c.in_ok-start.ensures.born c.in_ok-start.ensures.block)
     ∙ ap (after_birth c.args.kind c.args.shape first block) c.next_handle.ensures.contents)
