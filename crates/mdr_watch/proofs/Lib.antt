@@ -5,5 +5,5 @@ mod Below
 mod Nested
 mod Passing
 mod Calls
-mod Runs
+mod Scripted
 pub mod Alone

@@ -3,3 +3,4 @@ pub mod Guarding
 pub mod Leaving
 pub mod Nesting
 pub mod Going
+pub mod Commanding

@@ -1,9 +1,7 @@
 -- protocol
 -- The driver that is watched.
-use Rattle.std.specs.Prelude.{◌≡◌, ◌≤◌, true, false, length, reverse, ℕ, suc, List, [], Some, Result, is_some, slice_get}
+use Rattle.std.specs.Prelude.{◌≡◌, ◌≤◌, true, length, reverse, ℕ, suc, List, [], Some, Result, is_some, slice_get}
 use Rattle.mdr_core.specs.declared.plan.Key.{Key}
-use Rattle.mdr_bound.specs.declared.bound.Bound.{Bound}
-use Rattle.mdr_core.specs.declared.plan.Plan.{Plan}
 use Rattle.mdr_core.specs.declared.program.Func.{Func}
 use Rattle.mdr_core.specs.declared.program.Program.{Program}
 use Rattle.mdr_events.specs.declared.event.Asked.{Asked as Question}
@@ -19,11 +17,10 @@ use Rattle.mdr_model.specs.declared.memory.Cell.{Cell}
 use Rattle.mdr_meaning.specs.Bodies.{started}
 use Rattle.mdr_meaning.specs.Tree.{Tree}
 use Rattle.mdr_plain.specs.Running.{Crossing as AnyCrossing, Setting, Went as AnyWent, interrupts}
-use Rattle.mdr_plain.specs.Scripts.{Finish, commands, first_world}
 use Rattle.mdr_plain.specs.World.{World, Ran}
 use Rattle.mdr_viewed.specs.Laws.{kernel_goes, returns}
-use Rattle.mdr_watched.specs.Driver.{Driver, driver_of, entry_roots, is_user, touched_by}
-use Rattle.mdr_watched.specs.Watched.{calls_back, does_with, downcall, held, in_user, kernel_of, may_not, returns_to, serves}
+use Rattle.mdr_watched.specs.Driver.{Driver, driver_of, entry_roots, touched_by}
+use Rattle.mdr_watched.specs.Watched.{calls_back, downcall, held, in_user, kernel_of, returns_to, serves}
 use Rattle.mdr_whole.specs.declared.paused.Paused.{Paused}
 use Rattle.mdr_whole.specs.declared.paused.Went.{Went}
 use Rattle.mdr_whole.specs.Pausing.{awaited, went_as}
@@ -42,14 +39,6 @@ IsFit w = length w.plan.now.halves ≡ length w.program.now.funcs
 -- each function has a body
 abbrev pub HaveBodies : Program → Type 0
 HaveBodies program = (f : ℕ) (func : Func) → slice_get program.funcs f ≡ Some func → is_some func.body ≡ true
-
--- a command in which no function of the user half is called
-abbrev pub IsKernel : Plan → Command → Type 0
-IsKernel plan (command.Call f args) = is_user plan f ≡ false
-IsKernel plan (command.Idle n) = Unit {0}
-IsKernel plan (command.Show g) = Unit {0}
-IsKernel plan (command.Poke serial index n) = Unit {0}
-IsKernel plan (command.Say text) = Unit {0}
 
 -- a command in which no function is called
 abbrev pub IsNoCall : Command → Type 0
@@ -105,8 +94,3 @@ begins_with u args w = visible u.watch.program.now (touched_in u) w.memory [] (e
 
 abbrev pub around_user : Activation → Setting
 around_user a = in_user (driver_in a.upcall.watch) (held (driver_in a.upcall.watch)) a.upcall.func (backs_in a)
-
--- the run of a script in which code of the kernel half may call nothing back: where it would the run stops. It is the watched run of a driver that calls nothing back
-unfoldable pub watched_apart : Program → Plan → Bound → (budget : ℕ) → Finish
-watched_apart program plan script budget =
-    commands (does_with (driver_of program plan) (held (driver_of program plan)) may_not) script.commands (first_world (driver_of program plan).kernel.known script budget)

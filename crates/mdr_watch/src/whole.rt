@@ -4,8 +4,9 @@ ghost use Rattle.std.specs.Prelude.{◌≡◌, IfOk, length};
 ghost use Rattle.mdr_core.specs.Sound.{IsSound};
 ghost use Rattle.mdr_plain.specs.Outcome.{outcome_of};
 ghost use Rattle.mdr_plain.specs.Scripts.{finish};
+ghost use Rattle.mdr_watched.specs.Watched.{watched};
 ghost use Rattle.mdr_whole.specs.Ending.{end_of};
-ghost use Rattle.mdr_watch.specs.Watching.{HaveBodies, watched_apart};
+ghost use Rattle.mdr_watch.specs.Watching.{HaveBodies};
 
 use crate::commands::{Did, do_commands};
 use crate::watch::Watch;
@@ -39,8 +40,8 @@ fn shown_of(alloc: Global, did: Did) -> Result<Outcome, OutOfMemory>
 }
 
 /// Runs a script for a driver on one memory, with so many ticks, while its user half is held to what the plan lets it touch,
-/// and gives what the run shows. Code of the kernel half may call nothing back.
-#[tactic(auto, unfolding(crate::specs::Watching::watched_apart))]
+/// and gives what the run shows. Code of the kernel half may call functions of the user half.
+#[tactic(auto, unfolding(mdr_watched::specs::Watched::watched_of))]
 pub fn run_watched(
     alloc: Global,
     program: &Program,
@@ -51,7 +52,7 @@ pub fn run_watched(
     requires sound { IsSound program.now }
     requires fit { length plan.now.halves ≡ length program.now.funcs }
     requires bodies { HaveBodies program.now }
-    ensures { IfOk result (λ o. o ≡ outcome_of program.now (watched_apart program.now plan.now script.now ticks)) }
+    ensures { IfOk result (λ o. o ≡ outcome_of program.now (watched program.now plan.now script.now ticks)) }
 {
     let watch = Watch { program, plan };
     let world = World::new(alloc, program, script, ticks)?;

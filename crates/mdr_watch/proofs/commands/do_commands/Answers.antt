@@ -1,5 +1,5 @@
 use Rattle.mdr_watch.specs.Watching.{driver_in}
-use Rattle.mdr_watch.proofs.Runs.{ends_at}
+use Rattle.mdr_watch.proofs.Scripted.{ends_at}
 use Rattle.mdr_watch.proofs.commands.do_commands.Goals as goal
 
 pub do_watched-requires-clause-same : goal.do_watched-requires-clause-same

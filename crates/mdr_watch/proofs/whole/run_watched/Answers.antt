@@ -1,6 +1,6 @@
 use Rattle.mdr_meaning.specs.Bodies.{known_of}
 use Rattle.mdr_watch.proofs.Alone.{none_first}
-use Rattle.mdr_watch.proofs.Runs.{ran_watched}
+use Rattle.mdr_watch.proofs.Scripted.{ran_watched}
 use Rattle.mdr_watch.proofs.whole.run_watched.Goals as goal
 
 pub do_commands-requires-clause-alone : goal.do_commands-requires-clause-alone
