@@ -17,7 +17,7 @@ use Rattle.mdr_meaning.specs.Tree.{Asked, Tree}
 use Rattle.mdr_model.specs.declared.memory.Cell.{Cell}
 use Rattle.mdr_model.specs.Memory.{Memory, zero_block}
 use Rattle.mdr_paths.specs.Paths.{is_in}
-use Rattle.mdr_plain.specs.Running.{KernelCode, all_cells, call, goes, interrupts, nothing}
+use Rattle.mdr_plain.specs.Running.{KernelCode, all_cells, goes, interrupts, nothing}
 use Rattle.mdr_plain.specs.Services.{served}
 use Rattle.mdr_plain.specs.Storage.{accesses, born, died, new_of, next_serial}
 use Rattle.mdr_plain.specs.World.{World, Ran, Ended, Stopped, left}
@@ -37,10 +37,9 @@ use Rattle.mdr_viewed.proofs.Upcalls.{upcalls_are_viewed}
 use Rattle.mdr_watched.specs.Driver.{Driver, touched_by}
 use Rattle.mdr_viewed.proofs.Sets.{sets_are_viewed}
 use Rattle.mdr_watched.specs.Order.{AreLive}
-use Rattle.mdr_watched.specs.Views.{new_cells, taken}
+use Rattle.mdr_watched.specs.Views.{new_cells}
 use Rattle.mdr_watched.specs.Watched.{held, kernel_of, sent, serves}
 use Rattle.mdr_watched.proofs.KeepLaws.{IsKept, served_keeps}
-use Rattle.mdr_whole.specs.declared.ending.Gave.{Gave}
 use Rattle.mdr_whole.specs.declared.ending.Gave.TheVariants as gave_is
 use Rattle.mdr_whole.specs.declared.code.Code.{Code}
 use Rattle.mdr_whole.specs.declared.paused.Went.{Went as Far}

@@ -290,19 +290,12 @@ module _ (program : Program) (inner : List Cell) (outer : List (List Cell)) (w :
     ap (λ (x : Driven). x.world.views) gone,
   )
 
-  -- the sets that are under it stay older
-  pub under_guarded : (rest : List (List Cell)) (last : List Cell) → outer ≡ rest ++ last ∷ [] → IsGuarded (inner ∷ reverse outer) w → IsGuarded (last ∷ reverse rest) w
-  under_guarded rest last split g = record { upcall = g.upcall; older = subst (λ sets. AreOlder sets w) (last_first outer rest last split) g.older.1 }
-
   -- where others are around the innermost it goes in place
   pub some_outside : (n : ℕ) → length (below d.world.views) ≡ suc n → length outer ≡ suc n
   some_outside n e = sym (length-map (reverse outer) (living w.memory) ∙ length-reverse outer) ∙ ap (λ (x : Driven). length (below x.world.views)) is ∙ e
 
   pub popped : (sets : List (List Cell)) → inner ∷ reverse outer ≡ inner ∷ sets → driver program (viewed sets w) ≡ driver d.program (closed d.world)
   popped sets split = ap (λ xs. driver program (closed (viewed xs w))) (sym split) ∙ ap (λ (x : Driven). driver x.program (closed x.world)) is
-
-  pub popped_guarded : (sets : List (List Cell)) → inner ∷ reverse outer ≡ inner ∷ sets → IsGuarded (inner ∷ reverse outer) w → IsGuarded sets w
-  popped_guarded sets split g = let h : IsGuarded (inner ∷ sets) w = subst (λ xs. IsGuarded xs w) split g in record { upcall = h.upcall; older = h.older.1 }
 
   pub left_all : (d' : Driven) → d' ≡ driver program (record w { views = open_views false }) → d' ≡ driver d.program (with_views [] d.world)
   left_all d' gone = gone ∙ ap (λ (x : Driven). driver x.program (with_views [] x.world)) is
@@ -314,12 +307,6 @@ module _ (program : Program) (inner : List Cell) (outer : List (List Cell)) (w :
         ap (λ x. driver program (viewed x w)) are
         ∙ over_goes program set (inner ∷ reverse outer) w (subst (λ (x : Driven). AreLive x.world.memory set) (sym is) live)
         ∙ ap (λ (x : Driven). driver x.program (opened set x.world)) is
-
-    pub over_guarded : (sets : List (List Cell)) → sets ≡ set ∷ inner ∷ reverse outer → IsOlder set d.world → IsGuarded (inner ∷ reverse outer) w → IsGuarded sets w
-    over_guarded sets are older g = subst (λ x. IsGuarded x w) (sym are) (record {
-      upcall = g.upcall;
-      older = (subst (λ (x : Driven). IsOlder set x.world) (sym is) older, g.older);
-    })
 
 two_open : (views : List (List Cell)) (n : ℕ) → length views ≡ suc (suc n) → below views ≡ [] → ⊥
 two_open [] n e none = omega (arith, e)

@@ -1,15 +1,12 @@
 -- The cycle of upcalls within one another.
-use Rattle.std.proofs.Common.{[], ◌∷◌, ◌∙◌, ap, refl, subst, sym}
+use Rattle.std.proofs.Common.{[], ◌∷◌, ◌∙◌, ap, subst, sym}
 use Rattle.std.proofs.lemmas.Result.{IfOk-weaker}
 use Rattle.mdr_events.specs.declared.event.Event.{Event}
 use Rattle.mdr_events.specs.Going.{LeavesAt}
 use Rattle.mdr_events.specs.Values.{wires_of}
 use Rattle.mdr_exec.proofs.ReadyLaws.{takes_one}
-use Rattle.mdr_model.specs.Memory.{Memory}
 use Rattle.mdr_reach.specs.Answers.{answered}
-use Rattle.mdr_watched.specs.Order.{AreLive}
 use Rattle.mdr_watched.specs.Watched.{closing}
-use Rattle.mdr_world.specs.Driven.{Driven}
 use Rattle.mdr_watch.specs.Going.{held_in, program_in}
 use Rattle.mdr_watch.specs.Watching.{driver_in}
 use Rattle.mdr_watch.proofs.Below as below

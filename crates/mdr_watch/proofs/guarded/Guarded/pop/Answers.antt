@@ -1,5 +1,4 @@
-use Rattle.mdr_watch.specs.Guarding.{sets_of}
-use Rattle.mdr_watch.proofs.Guards.{popped, popped_guarded, some_outside}
+use Rattle.mdr_watch.proofs.Guards.{popped, some_outside}
 use Rattle.mdr_watch.proofs.guarded.Guarded.pop.Goals as goal
 
 pub pop_set-requires : goal.pop_set-requires

@@ -1,5 +1,5 @@
 use Rattle.mdr_watch.specs.Guarding.{sets_of}
-use Rattle.mdr_watch.proofs.Guards.{over_guarded, over_is}
+use Rattle.mdr_watch.proofs.Guards.{over_is}
 use Rattle.mdr_watch.proofs.guarded.Guarded.push.Goals as goal
 
 pub returns-in-Ok : goal.returns-in-Ok
