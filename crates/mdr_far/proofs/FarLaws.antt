@@ -36,13 +36,7 @@ replaced (Some l) h h' kept same alike honest =
     subst (λ (p : Plan). Loads l.user l.plan h'.program p) (sym alike) (subst (λ (p : Program). Loads l.user l.plan p h.plan) (sym same) (kept.1).loads) in
     (record { load = (kept.0).load; served = served l.user l.plan h'.program h'.plan h'.exchanges loads honest }, record { loads = loads; answered = (kept.1).answered })
 
--- a far side keeps what it must where it holds what another does
-pub kept_alike : (a b : Inside) → a.loaded ≡ b.loaded → a.half ≡ b.half → IsKeptFar a → IsKeptFar b
-kept_alike a b e f kept =
-    let both : AreKept b.loaded b.half = subst (λ (l : Option Loaded). AreKept l b.half) e (subst (λ (h : Option HalfState). AreKept a.loaded h) f (kept.honest, kept.serves)) in
-    record { honest = both.0; serves = both.1 }
-
--- and where a half of the same program and plan, whose replies are honest, takes the place of its own
+-- a far side keeps what it must where a half of the same program and plan, whose replies are honest, takes the place of its own
 pub kept_on : (a b : Inside) (h h' : HalfState) → a.loaded ≡ b.loaded → a.half ≡ Some h → b.half ≡ Some h' → h'.program ≡ h.program → h'.plan ≡ h.plan → Honest (driver_of h'.program h'.plan) [] h'.exchanges → IsKeptFar a → IsKeptFar b
 kept_on a b h h' e is is' same alike honest kept =
     let before : AreKept b.loaded (Some h) = subst (λ (l : Option Loaded). AreKept l (Some h)) e (subst (λ (x : Option HalfState). AreKept a.loaded x) is (kept.honest, kept.serves)) in

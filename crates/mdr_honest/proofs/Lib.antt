@@ -14,4 +14,3 @@ pub mod Bindings
 pub mod ScriptTexts
 pub mod FittingScripts
 pub mod Meant
-pub mod Apart

@@ -1,6 +1,7 @@
 // Runs of the top call over files and output in memory.
 
 mod answers;
+mod callbacks;
 mod cuts;
 mod files;
 mod nested;

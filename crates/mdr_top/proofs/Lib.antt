@@ -1,5 +1,4 @@
 pub mod Stages
-pub mod Apart
 pub mod Sending
 pub mod Steps
 pub mod Meanings

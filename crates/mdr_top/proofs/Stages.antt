@@ -3,6 +3,7 @@ use Rattle.std.proofs.Common.{◌≡◌, ℕ, ◌≤◌, Bool, true, false, List
 use Rattle.mdr_core.specs.declared.plan.Plan.{Plan}
 use Rattle.mdr_core.specs.declared.program.Program.{Program}
 use Rattle.mdr_cut.proofs.Determined.{plan_is_determined}
+use Rattle.mdr_honest.proofs.Taken.{source_bodies}
 use Rattle.mdr_model.specs.declared.command.Command.{Command}
 use Rattle.mdr_model.specs.declared.outcome.End.{End}
 use Rattle.mdr_model.specs.declared.outcome.End.TheVariants as ends
@@ -17,6 +18,7 @@ use Rattle.mdr_plain.specs.Scripts.{Finish, commands, and_then}
 use Rattle.mdr_plain.specs.World.{World, Ended, Stopped, Work}
 use Rattle.mdr_watched.specs.Watched.{watched, watched_of}
 use Rattle.mdr_source.specs.declared.outcome.Source.{Source}
+use Rattle.mdr_source.proofs.Whose.{come_source}
 use Rattle.mdr_due.specs.declared.due.Stage.{Stage}
 use Rattle.mdr_due.specs.declared.due.Stage.TheVariants as stage
 use Rattle.mdr_due.specs.declared.status.Status.{Status}
@@ -24,10 +26,17 @@ use Rattle.mdr_due.specs.declared.status.Status.TheVariants as status
 use Rattle.mdr_due.specs.Statuses.{Counts, HasReadCause}
 use Rattle.mdr_due.specs.Reads.{Files, IsRead, WasRead, longest_script}
 use Rattle.mdr_due.specs.Stages.{StageIs}
-use Rattle.mdr_slicer.specs.Slicing.{IsSourceOf}
+use Rattle.mdr_slicer.specs.Slicing.{HasSource, IsSourceOf}
+use Rattle.mdr_watch.specs.Watching.{HaveBodies}
 use Rattle.mdr_top.specs.Scripts.{HasScript, NoScript, IsScriptOf, NoScriptOf}
 use Rattle.mdr_top.specs.declared.manner.Manner.{Manner}
 use Rattle.mdr_top.specs.WholeRuns.{status_of, IsOutcome, OutcomeIsDetermined, RunsOver, Runs, RunsPart}
+
+-- ---- sources
+
+-- each function of a source has its body
+pub source_has_bodies : (bytes : List ℕ) (source : Source) → HasSource bytes source → HaveBodies source.program
+source_has_bodies bytes source has = source_bodies bytes source (come_source bytes source has.comes)
 
 -- ---- scripts
 

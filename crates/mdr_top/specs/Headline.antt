@@ -29,7 +29,7 @@ use Rattle.mdr_top.specs.Words.{OfFiles, Run, command_of}
 use Rattle.mdr_top.specs.Writing.{IsWritten}
 use Rattle.mdr_watched.specs.Watched.{watched}
 
--- the words are accepted for what these very reads gave, the far side holds the texts that the source is cut into, and what was written is the report of what they mean, which is that of the same run on one memory; behind it, where they are asked for, the lines of the messages that the far side got and of its answers, and that of the layout of the memory of that run
+-- the words are accepted for what these very reads gave, the far side holds the texts that the source is cut into, and what was written is the report of what they mean, which is that of the same run on one memory, within 8 messages for each tick and 6 for each command that called a function, and within 4 and 6 where the driver calls nothing back; behind it, where they are asked for, the lines of the messages that the far side got and of its answers, and that of the layout of the memory of that run
 pub record MeansBy (words : List (List ℕ)) (before after : Outside) (s : Status) : Type 0 where
   pub source : Source
   pub script : Bound

@@ -1,5 +1,4 @@
 pub mod Scripts
-pub mod Apart
 pub mod WholeRuns
 pub mod CutInto
 pub mod Reports

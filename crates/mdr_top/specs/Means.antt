@@ -35,7 +35,7 @@ use Rattle.mdr_watched.specs.Watched.{watched}
 abbrev pub meant : Program → Plan → Bound → (ticks : ℕ) → Outcome
 meant program plan script ticks = outcome_of program (watched program plan script ticks)
 
--- its status and report, within 8 messages for each tick and 6 for each command that called a function, and within 4 for each tick where nothing is called back
+-- its status and report, within 8 messages for each tick and 6 for each command that called a function, and within 4 and 6 where the driver calls nothing back
 pub record IsMeaning (program : Program) (plan : Plan) (script : Bound) (ticks : ℕ) (es : List Exchange) (s : Status) (text : List ℕ) : Type 0 where
   pub reported : Reported program (meant program plan script ticks) s text
   pub own : IsOwn (meant program plan script ticks).end

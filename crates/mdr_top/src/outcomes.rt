@@ -3,7 +3,6 @@
 ghost use Rattle.std.specs.Prelude.{IfOk};
 ghost use Rattle.mdr_core.specs.Sound.{IsSound};
 ghost use Rattle.mdr_watch.specs.Watching.{HaveBodies};
-ghost use Rattle.mdr_top.specs.Apart.{RunsApart};
 ghost use Rattle.mdr_top.specs.WholeRuns.{IsOutcome};
 
 use crate::manner::Manner;
@@ -15,7 +14,7 @@ use mdr_watch::run_watched;
 use mdr_whole::run_whole;
 use std::alloc::Global;
 
-/// Runs a script over a program that calls nothing back, in a manner. What holds the user half to its annotations is the program's own plan.
+/// Runs a script over a program, in a manner. What holds the user half to its annotations is the program's own plan.
 pub(crate) fn outcome_in(
     alloc: Global,
     program: &Program,
@@ -24,7 +23,6 @@ pub(crate) fn outcome_in(
 ) -> Result<Outcome, OutOfMemory>
     requires sound { IsSound program.now }
     requires bodies { HaveBodies program.now }
-    requires apart { RunsApart program.now script.now }
     ensures { IfOk result (IsOutcome program.now script.now manner) }
 {
     if manner.watched {

@@ -5,7 +5,6 @@ ghost use Rattle.mdr_core.specs.Sound.{IsSound};
 ghost use Rattle.mdr_due.specs.Reads.{WasRead, longest_script};
 ghost use Rattle.mdr_due.specs.Statuses.{Counts, HasReadCause, ReadCause};
 ghost use Rattle.mdr_watch.specs.Watching.{HaveBodies};
-ghost use Rattle.mdr_top.specs.Apart.{RunsApart, ScriptsRunApart};
 ghost use Rattle.mdr_top.specs.WholeRuns.{IsRun, RunsOver, Runs, RunsPart};
 
 use crate::ending::status_of;
@@ -24,7 +23,6 @@ use std::alloc::Global;
 fn ran(alloc: Global, program: &Program, script: &Bound, manner: Manner) -> Result<Due, OutOfMemory>
     requires sound { IsSound program.now }
     requires bodies { HaveBodies program.now }
-    requires apart { RunsApart program.now script.now }
     ensures run { IfOk result (λ due. IsRun program.now script.now manner due.status due.text.items) }
     ensures read { IfOk result (λ due. (before after : Counts) → HasReadCause before after due.status) }
 {
@@ -44,7 +42,6 @@ fn run_over<S: Shelf>(
 ) -> Result<Due, OutOfMemory>
     requires sound { IsSound program.now }
     requires bodies { HaveBodies program.now }
-    requires apart { ScriptsRunApart program.now }
     ensures done { IfOk result (λ due. RunsOver (S.files shelf.old) program.now name.now manner (S.calls shelf.old) (S.calls shelf.new) due.status due.text.items) }
     ensures part { OnErr result (WasRead (S.files shelf.old) name.now longest_script (S.calls shelf.old) (S.calls shelf.new)) }
     ensures kept { S.files shelf.new ≡ S.files shelf.old }

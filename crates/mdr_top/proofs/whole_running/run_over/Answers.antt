@@ -10,8 +10,3 @@ returns-clause-done g c = ran c.in-Ok-Goes.script (gone _ _ c.in-Ok-Goes.field-0
 
 pub script_of-requires : goal.script_of-requires
 script_of-requires g c = c.requires.sound.numbers
-
-pub ran-requires-clause-apart : goal.ran-requires-clause-apart
-ran-requires-clause-apart g c =
-    let script = gone _ _ c.in-Ok-Goes.field-0 c.in-Ok-Goes.script c.in-Ok-Goes.field-0-is c.in-Ok-Goes.ensures.read in
-    c.requires.apart script.bytes c.in-Ok-Goes.script script.has

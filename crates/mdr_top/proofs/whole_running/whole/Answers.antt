@@ -3,10 +3,9 @@ use Rattle.mdr_due.specs.Reads.{WasRead, longest_script}
 use Rattle.mdr_due.specs.Statuses.{HasReadCause}
 use Rattle.mdr_due.proofs.StageSteps.{err_weaker}
 use Rattle.mdr_slicer.proofs.Steps.{ended, gone, ok_so}
-use Rattle.mdr_top.proofs.Apart.{scripts_run_apart, source_has_bodies}
 use Rattle.mdr_top.specs.WholeRuns.{RunsOver, Runs, RunsPart}
 use Rattle.mdr_top.specs.WholeRuns.Runs.{no_source}
-use Rattle.mdr_top.proofs.Stages.{runs_part, runs_so, since}
+use Rattle.mdr_top.proofs.Stages.{runs_part, runs_so, since, source_has_bodies}
 use Rattle.mdr_top.proofs.whole_running.whole.Goals as goal
 
 pub returns-in-Ok-Ends-clause-done : goal.returns-in-Ok-Ends-clause-done
@@ -29,11 +28,6 @@ returns-clause-read g c =
     ok_so c.run_over.result (λ (due : Due). HasReadCause (record { faults = g.S.Shelf.faults c.source_of.new.shelf; absent = g.S.Shelf.absent c.source_of.new.shelf; long = g.S.Shelf.long c.source_of.new.shelf }) (record { faults = g.S.Shelf.faults c.run_over.new.shelf; absent = g.S.Shelf.absent c.run_over.new.shelf; long = g.S.Shelf.long c.run_over.new.shelf }) due.status)
     (λ (due : Due). HasReadCause (record { faults = g.S.Shelf.faults c.args.shelf.now; absent = g.S.Shelf.absent c.args.shelf.now; long = g.S.Shelf.long c.args.shelf.now }) (record { faults = g.S.Shelf.faults c.run_over.new.shelf; absent = g.S.Shelf.absent c.run_over.new.shelf; long = g.S.Shelf.long c.run_over.new.shelf }) due.status)
     (λ due cause. since _ _ _ due.status c.source_of.ensures.faults_later c.source_of.ensures.absent_later c.source_of.ensures.long_later cause) c.run_over.ensures.read
-
-pub run_over-requires-clause-apart : goal.run_over-requires-clause-apart
-run_over-requires-clause-apart g c =
-    let source = gone _ _ c.in-Ok-Goes.field-0 c.in-Ok-Goes.source c.in-Ok-Goes.field-0-is c.in-Ok-Goes.ensures.read in
-    scripts_run_apart source.bytes c.in-Ok-Goes.source source.has
 
 pub run_over-requires-clause-bodies : goal.run_over-requires-clause-bodies
 run_over-requires-clause-bodies g c =

@@ -3,20 +3,18 @@ use Rattle.mdr_far.specs.declared.local_far.LocalFar.TheInside.{Inside}
 use Rattle.mdr_outside.specs.Far.{IsLoaded}
 use Rattle.mdr_far.specs.Fars.{Held}
 use Rattle.mdr_far.specs.Halves.{HalfState}
-use Rattle.mdr_far.proofs.FarLaws.{half_there, kept_alike, kept_on}
+use Rattle.mdr_far.proofs.FarLaws.{half_there, kept_on}
 use Rattle.mdr_far.proofs.local_far.LocalFarFar.deliver.Goals as goal
-use Rattle.mdr_far.proofs.local_far.LocalFarFar.deliver.Goals.{in-Some+in-Ok, in-Some+in-Err, in-None}
+use Rattle.mdr_far.proofs.local_far.LocalFarFar.deliver.Goals.{in-Ok, in-Err}
 
 pub invariant_of-self : goal.invariant_of-self
-invariant_of-self c = elim c.match-self.branch [
-  | in-Some+in-Ok w ↦
-      kept_on c.self.inside c.match-self.self-inside w.in-Some.half w.deliver.new.self (sym (ap (λ (s : Inside). s.loaded) w.self-inside-is)) w.in-Some.is (ap (λ (s : Inside). s.half) w.self-inside-is)
+invariant_of-self c = elim c.match-deliver.branch [
+  | in-Ok w ↦
+      kept_on c.self.inside c.match-deliver.self-inside c.in-Some.half c.deliver.new.self (sym (ap (λ (s : Inside). s.loaded) w.self-inside-is)) c.in-Some.is (ap (λ (s : Inside). s.half) w.self-inside-is)
       (ap (λ (h : HalfState). h.program) w.in-Ok.ensures.kept) (ap (λ (h : HalfState). h.plan) w.in-Ok.ensures.kept) w.replies.ensures c.self.invariant
-  | in-Some+in-Err w ↦
-      kept_on c.self.inside c.match-self.self-inside w.in-Some.half w.deliver.new.self (sym (ap (λ (s : Inside). s.loaded) w.self-inside-is)) w.in-Some.is (ap (λ (s : Inside). s.half) w.self-inside-is)
+  | in-Err w ↦
+      kept_on c.self.inside c.match-deliver.self-inside c.in-Some.half c.deliver.new.self (sym (ap (λ (s : Inside). s.loaded) w.self-inside-is)) c.in-Some.is (ap (λ (s : Inside). s.half) w.self-inside-is)
       (ap (λ (h : HalfState). h.program) w.in-Err.ensures.err) (ap (λ (h : HalfState). h.plan) w.in-Err.ensures.err) w.replies-in-Err.ensures c.self.invariant
-  | in-None w ↦
-      kept_alike c.self.inside c.match-self.self-inside (sym (ap (λ (s : Inside). s.loaded) w.self-inside-is)) (sym (ap (λ (s : Inside). s.half) w.self-inside-is)) c.self.invariant
 ]
 
 pub unreachable-requires : goal.unreachable-requires
