@@ -94,7 +94,7 @@ fn expect_run<F: Far>(
     status: Status,
     text: &str,
 ) -> Result<(), Fail> {
-    let mut out = VecSink::new(alloc, 1000, 7, Vec::new(alloc))?;
+    let mut out = VecSink::new(alloc, 4000, 7, Vec::new(alloc))?;
     let told = expect_printed(rt, alloc, words, shelf, &mut out, far, status, text);
     drop(out);
     told

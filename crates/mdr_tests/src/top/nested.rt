@@ -225,16 +225,16 @@ fn fire_at(alloc: Global, depth: u32) -> Result<DeliverAnswer, AllocError> {
 }
 
 /// `fire` is called so often, each time by what it called back before, without a tick of user code.
-fn chain_of(alloc: Global, calls: u32) -> Result<Vec<DeliverAnswer>, AllocError> {
+fn chain_of(alloc: Global, calls: u8) -> Result<Vec<DeliverAnswer>, AllocError> {
     let mut answers = answers_of(alloc, &[FIRE])?;
     for k in 1..calls {
-        answers.push(fire_at(alloc, 2 * k + 1)?)?;
+        answers.push(fire_at(alloc, 2 * (k as u32) + 1)?)?;
     }
     Ok(answers)
 }
 
 /// How often it is called, the status, how the run ends, and its ticks: one for each `kcall`, and two before the first.
-type Chain = (u32, Status, &'static str, u32);
+type Chain = (u8, Status, &'static str, u32);
 
 const CHAINS: &[Chain] = &[
     (26, Status::FarFault, "far fault 27", 28),
