@@ -10,3 +10,4 @@ mod search;
 pub use blocks::Blocks;
 pub use cells::{Cells, Life};
 pub use laws::values_stand;
+pub use search::{forget, place_of};

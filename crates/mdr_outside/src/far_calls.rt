@@ -3,78 +3,39 @@
 ghost use Rattle.std.specs.Prelude.{◌≡◌, []};
 ghost use Rattle.mdr_outside.specs.Calls.{Loads, Sends, and_then};
 
-use logbook::{Gain, Offer, Plain, Rule, Seen, Start};
+use mdr_history::{History, Tells};
 use std::marker::Model;
 
-/// The type of the list; no value of it is made.
-pub struct Listed;
+/// The type of a call; no value of it is made.
+#[derive(Drop)]
+pub struct Called;
 
-impl Model for Listed {
-    ghost use Rattle.std.specs.Prelude.{List, []};
-    ghost use Rattle.mdr_outside.specs.Calls.{FarCall};
-
-    ghost Value = { List FarCall };
-
-    ghost view = { λ e. [] };
-}
-
-/// The list of a log that nothing is written to.
-pub struct Still;
-
-impl Rule<Listed, ()> for Still {
+impl Model for Called {
     ghost use Rattle.std.specs.Prelude.{[]};
-    ghost use base.Fml.{ftrue};
+    ghost use Rattle.mdr_outside.specs.Calls.{FarCall, Sends};
 
-    ghost holds = { λ cells log. Unit {0} };
+    ghost Value = { FarCall };
 
-    ghost first = { [] };
-
-    ghost hinted = { λ n log. Unit {0} };
-
-    ghost shows = { λ log. [] };
-
-    ghost keeps = { λ names log. ftrue };
-
-    ghost moves = { λ ask before after answer. Unit {0} };
+    ghost view = { λ _. Sends [] };
 }
 
-impl Gain<Listed, ()> for Still {
-    ghost use base.Fml.{ftrue};
+impl<'a> Tells<Called> for (&'a [u8], &'a [u8]) {
+    ghost use Rattle.mdr_outside.specs.Calls.{Loads};
 
-    ghost after = { λ names about answer. ftrue };
+    ghost item = { λ texts. Loads texts.0.now texts.1.now };
 }
 
-impl Plain<(), Listed, ()> for Still {
-    ghost use Rattle.std.specs.Prelude.{[], None};
+impl<'a> Tells<Called> for &'a [u8] {
+    ghost use Rattle.mdr_outside.specs.Calls.{Sends};
 
-    ghost ask = { λ x. [] };
-
-    ghost state = { λ x. None };
-}
-
-impl<'a> Plain<(&'a FarCalls, &'a [u8], &'a [u8]), Listed, ()> for Still {
-    ghost use Rattle.std.specs.Prelude.{None};
-    ghost use Rattle.mdr_outside.specs.Calls.{Loads, and_then};
-
-    ghost ask = { λ x. and_then x.0.now (Loads x.1.now x.2.now) };
-
-    ghost state = { λ x. None };
-}
-
-impl<'a> Plain<(&'a FarCalls, &'a [u8]), Listed, ()> for Still {
-    ghost use Rattle.std.specs.Prelude.{None};
-    ghost use Rattle.mdr_outside.specs.Calls.{Sends, and_then};
-
-    ghost ask = { λ x. and_then x.0.now (Sends x.1.now) };
-
-    ghost state = { λ x. None };
+    ghost item = { λ message. Sends message.now };
 }
 
 /// The calls of a far side so far, in their order. A far side that has no use for the list itself keeps this, so
 /// that its contracts can speak of them.
 #[derive(Drop)]
 pub struct FarCalls {
-    offer: Offer<Listed, (), Still, Still>,
+    calls: History<Called>,
 }
 
 impl Model for FarCalls {
@@ -83,7 +44,7 @@ impl Model for FarCalls {
 
     ghost Value = { List FarCall };
 
-    ghost view = { λ h. h.offer.ask };
+    ghost view = { λ h. h.calls };
 }
 
 impl FarCalls {
@@ -91,9 +52,8 @@ impl FarCalls {
     pub fn new() -> FarCalls
         ensures { result ≡ [] }
     {
-        let (seen, _, _) = Seen::open(Start::alone(), 0, 0);
         FarCalls {
-            offer: seen.plain::<Still, (), Still>(&()),
+            calls: History::new(),
         }
     }
 
@@ -101,9 +61,8 @@ impl FarCalls {
     pub fn and_load(&self, user: &[u8], plan: &[u8]) -> FarCalls
         ensures { result ≡ and_then self.now (Loads user.now plan.now) }
     {
-        let (seen, _, _) = Seen::open(Start::alone(), 0, 0);
         FarCalls {
-            offer: seen.plain::<Still, (&FarCalls, &[u8], &[u8]), Still>(&(self, user, plan)),
+            calls: self.calls.and(&(user, plan)),
         }
     }
 
@@ -111,9 +70,8 @@ impl FarCalls {
     pub fn and_send(&self, message: &[u8]) -> FarCalls
         ensures { result ≡ and_then self.now (Sends message.now) }
     {
-        let (seen, _, _) = Seen::open(Start::alone(), 0, 0);
         FarCalls {
-            offer: seen.plain::<Still, (&FarCalls, &[u8]), Still>(&(self, message)),
+            calls: self.calls.and(&message),
         }
     }
 }

@@ -5,8 +5,8 @@ ghost use Rattle.mdr_outside.specs.Calls.{and_then};
 ghost use Rattle.mdr_outside.specs.Count.{Rose};
 ghost use Rattle.mdr_outside.specs.Sink.{Takes, HandsOn, count_after, wrote};
 
-use crate::history::History;
-use crate::sink::{Sink, SinkAnswer, SinkCall};
+use crate::sink::{Sink, SinkAnswer};
+use crate::sink_calls::SinkCalls;
 use std::io::Write;
 
 /// A writer, as standard output. The sink itself tells nothing of what was written.
@@ -14,7 +14,7 @@ use std::io::Write;
 pub struct OutSink<W> {
     pub out: W,
     faults: u64,
-    calls: History<SinkCall>,
+    calls: SinkCalls,
 }
 
 impl<W: Write> OutSink<W> {
@@ -27,7 +27,7 @@ impl<W: Write> OutSink<W> {
         OutSink {
             out,
             faults: 0,
-            calls: History::new(),
+            calls: SinkCalls::new(),
         }
     }
 }

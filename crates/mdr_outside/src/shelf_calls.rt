@@ -4,77 +4,39 @@ ghost use Rattle.std.specs.Prelude.{◌≡◌, []};
 ghost use Rattle.mdr_outside.specs.Calls.{Read, Written, and_then};
 
 use crate::shelf::{ReadAnswer, WriteAnswer};
-use logbook::{Gain, Offer, Plain, Rule, Seen, Start};
+use mdr_history::{History, Tells};
 use std::marker::Model;
 
-/// The type of the list; no value of it is made.
-pub struct Listed;
+/// The type of a call; no value of it is made.
+#[derive(Drop)]
+pub struct Called;
 
-impl Model for Listed {
-    ghost use Rattle.std.specs.Prelude.{List, []};
-    ghost use Rattle.mdr_outside.specs.Calls.{ShelfCall};
-
-    ghost Value = { List ShelfCall };
-
-    ghost view = { λ e. [] };
-}
-
-/// The list of a log that nothing is written to.
-pub struct Still;
-
-impl Rule<Listed, ()> for Still {
+impl Model for Called {
     ghost use Rattle.std.specs.Prelude.{[]};
-    ghost use base.Fml.{ftrue};
+    ghost use Rattle.mdr_outside.specs.Calls.{Read, ShelfCall};
+    ghost use Rattle.mdr_outside.specs.declared.shelf.ReadAnswer.TheVariants as reads;
 
-    ghost holds = { λ cells log. Unit {0} };
+    ghost Value = { ShelfCall };
 
-    ghost first = { [] };
-
-    ghost hinted = { λ n log. Unit {0} };
-
-    ghost shows = { λ log. [] };
-
-    ghost keeps = { λ names log. ftrue };
-
-    ghost moves = { λ ask before after answer. Unit {0} };
+    ghost view = { λ _. Read [] 0 reads.Missing };
 }
 
-impl Gain<Listed, ()> for Still {
-    ghost use base.Fml.{ftrue};
+impl<'a> Tells<Called> for (&'a str, u64, &'a ReadAnswer) {
+    ghost use Rattle.mdr_outside.specs.Calls.{Read};
 
-    ghost after = { λ names about answer. ftrue };
+    ghost item = { λ call. Read call.0.now call.1 call.2.now };
 }
 
-impl Plain<(), Listed, ()> for Still {
-    ghost use Rattle.std.specs.Prelude.{[], None};
+impl<'a> Tells<Called> for (&'a str, &'a [u8], WriteAnswer) {
+    ghost use Rattle.mdr_outside.specs.Calls.{Written};
 
-    ghost ask = { λ x. [] };
-
-    ghost state = { λ x. None };
-}
-
-impl<'a> Plain<(&'a ShelfCalls, &'a str, u64, &'a ReadAnswer), Listed, ()> for Still {
-    ghost use Rattle.std.specs.Prelude.{None};
-    ghost use Rattle.mdr_outside.specs.Calls.{Read, and_then};
-
-    ghost ask = { λ x. and_then x.0.now (Read x.1.now x.2 x.3.now) };
-
-    ghost state = { λ x. None };
-}
-
-impl<'a> Plain<(&'a ShelfCalls, &'a str, &'a [u8], WriteAnswer), Listed, ()> for Still {
-    ghost use Rattle.std.specs.Prelude.{None};
-    ghost use Rattle.mdr_outside.specs.Calls.{Written, and_then};
-
-    ghost ask = { λ x. and_then x.0.now (Written x.1.now x.2.now x.3) };
-
-    ghost state = { λ x. None };
+    ghost item = { λ call. Written call.0.now call.1.now call.2 };
 }
 
 /// The calls of a shelf so far, in their order.
 #[derive(Drop)]
 pub struct ShelfCalls {
-    offer: Offer<Listed, (), Still, Still>,
+    calls: History<Called>,
 }
 
 impl Model for ShelfCalls {
@@ -83,7 +45,7 @@ impl Model for ShelfCalls {
 
     ghost Value = { List ShelfCall };
 
-    ghost view = { λ h. h.offer.ask };
+    ghost view = { λ h. h.calls };
 }
 
 impl ShelfCalls {
@@ -91,9 +53,8 @@ impl ShelfCalls {
     pub fn new() -> ShelfCalls
         ensures { result ≡ [] }
     {
-        let (seen, _, _) = Seen::open(Start::alone(), 0, 0);
         ShelfCalls {
-            offer: seen.plain::<Still, (), Still>(&()),
+            calls: History::new(),
         }
     }
 
@@ -101,11 +62,8 @@ impl ShelfCalls {
     pub fn and_read(&self, name: &str, limit: u64, answer: &ReadAnswer) -> ShelfCalls
         ensures { result ≡ and_then self.now (Read name.now limit answer.now) }
     {
-        let (seen, _, _) = Seen::open(Start::alone(), 0, 0);
         ShelfCalls {
-            offer: seen.plain::<Still, (&ShelfCalls, &str, u64, &ReadAnswer), Still>(&(
-                self, name, limit, answer,
-            )),
+            calls: self.calls.and(&(name, limit, answer)),
         }
     }
 
@@ -113,11 +71,8 @@ impl ShelfCalls {
     pub fn and_written(&self, name: &str, bytes: &[u8], answer: WriteAnswer) -> ShelfCalls
         ensures { result ≡ and_then self.now (Written name.now bytes.now answer) }
     {
-        let (seen, _, _) = Seen::open(Start::alone(), 0, 0);
         ShelfCalls {
-            offer: seen.plain::<Still, (&ShelfCalls, &str, &[u8], WriteAnswer), Still>(&(
-                self, name, bytes, answer,
-            )),
+            calls: self.calls.and(&(name, bytes, answer)),
         }
     }
 }

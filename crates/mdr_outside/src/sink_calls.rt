@@ -1,33 +1,50 @@
-// The calls of a sink so far.
+// The calls of a sink so far, which contracts see and which take no bytes.
 
-ghost use Rattle.std.specs.Prelude.{◌≡◌};
+ghost use Rattle.std.specs.Prelude.{◌≡◌, []};
 ghost use Rattle.mdr_outside.specs.Calls.{and_then};
 ghost use Rattle.mdr_outside.specs.Sink.{wrote};
 
-use crate::history::{History, Listed, Still};
 use crate::sink::{SinkAnswer, SinkCall};
-use logbook::{Plain, Seen, Start};
+use mdr_history::{History, Tells};
+use std::marker::Model;
 
-impl<'a> Plain<(&'a History<SinkCall>, &'a [u8], SinkAnswer), Listed<SinkCall>, ()> for Still {
-    ghost use Rattle.std.specs.Prelude.{None};
-    ghost use Rattle.mdr_outside.specs.Calls.{and_then};
+impl<'a> Tells<SinkCall> for (&'a [u8], SinkAnswer) {
     ghost use Rattle.mdr_outside.specs.Sink.{wrote};
 
-    ghost ask = { λ x. and_then x.0.now (wrote x.1.now x.2) };
-
-    ghost state = { λ x. None };
+    ghost item = { λ call. wrote call.0.now call.1 };
 }
 
-impl History<SinkCall> {
+/// The writes of a sink so far, in their order.
+#[derive(Drop)]
+pub struct SinkCalls {
+    calls: History<SinkCall>,
+}
+
+impl Model for SinkCalls {
+    ghost use Rattle.std.specs.Prelude.{List};
+    ghost use Rattle.mdr_outside.specs.declared.sink.SinkCall.{SinkCall};
+
+    ghost Value = { List SinkCall };
+
+    ghost view = { λ h. h.calls };
+}
+
+impl SinkCalls {
+    /// No call was made.
+    pub(crate) fn new() -> SinkCalls
+        ensures { result ≡ [] }
+    {
+        SinkCalls {
+            calls: History::new(),
+        }
+    }
+
     /// A write more, and its answer.
-    pub(crate) fn and_wrote(&self, piece: &[u8], answer: SinkAnswer) -> History<SinkCall>
+    pub(crate) fn and_wrote(&self, piece: &[u8], answer: SinkAnswer) -> SinkCalls
         ensures { result ≡ and_then self.now (wrote piece.now answer) }
     {
-        let (seen, _, _) = Seen::open(Start::alone(), 0, 0);
-        History {
-            offer: seen.plain::<Still, (&History<SinkCall>, &[u8], SinkAnswer), Still>(&(
-                self, piece, answer,
-            )),
+        SinkCalls {
+            calls: self.calls.and(&(piece, answer)),
         }
     }
 }

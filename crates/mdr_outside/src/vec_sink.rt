@@ -4,8 +4,8 @@ ghost use Rattle.std.specs.Prelude.{◌≡◌, ◌≤◌, ◌<◌, Some, IfOk};
 ghost use Rattle.mdr_outside.specs.VecSink.{new_sink, sink_answer, after_write};
 
 use crate::calls::Calls;
-use crate::history::History;
-use crate::sink::{Sink, SinkAnswer, SinkCall};
+use crate::sink::{Sink, SinkAnswer};
+use crate::sink_calls::SinkCalls;
 use mdr_core::OutOfMemory;
 use std::alloc::Global;
 use std::marker::Model;
@@ -18,7 +18,7 @@ pub struct VecSink {
     most: usize,
     calls: Calls,
     faults: u64,
-    history: History<SinkCall>,
+    history: SinkCalls,
 }
 
 impl Model for VecSink {
@@ -52,7 +52,7 @@ impl VecSink {
             most: take,
             calls: Calls::new(fails),
             faults: 0,
-            history: History::new(),
+            history: SinkCalls::new(),
         })
     }
 

@@ -1,3 +1,4 @@
+pub mod Births
 pub mod Blocks
 pub mod Cells
 pub mod Holes

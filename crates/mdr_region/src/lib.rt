@@ -7,13 +7,11 @@
 
 mod holes;
 mod laws;
-mod lives;
 mod places;
 mod pool;
 mod region;
 mod region_blocks;
 mod rows;
-mod search;
 mod slots;
 
 pub use laws::{

@@ -8,8 +8,9 @@ ghost use Rattle.mdr_region.specs.Blocks.{IsBlock};
 ghost use Rattle.mdr_region.specs.PlacesView.{AreSound, Fits};
 
 use crate::holes::{Hole, drop_top, first_of, give_back, take_first};
-use crate::lives::Lives;
 use mdr_core::{Limit, OutOfMemory, below};
+use mdr_history::History;
+use mdr_mem::Life;
 use std::alloc::Global;
 
 // Where a block begins, and where the top is with it.
@@ -27,7 +28,7 @@ pub struct Places {
     pub taken: usize,
     pub births: u64,
     pub live: usize,
-    pub lives: Lives,
+    pub lives: History<Life>,
 }
 
 // Takes n places from the first hole that has as many, else from the top.
@@ -68,7 +69,7 @@ impl Places {
             taken: 0,
             births: 0,
             live: 0,
-            lives: Lives::new(),
+            lives: History::new(),
         }
     }
 
@@ -133,7 +134,7 @@ impl Places {
         self.taken += cells as usize;
         self.births += 1;
         self.live += 1;
-        self.lives = self.lives.and_birth(cells);
+        self.lives = self.lives.and(&Life::Birth { cells });
         Ok(placed.start)
     }
 
@@ -154,7 +155,7 @@ impl Places {
     {
         below(self.births, Limit::Births)?;
         self.births += 1;
-        self.lives = self.lives.and_birth(0);
+        self.lives = self.lives.and(&Life::Birth { cells: 0 });
         Ok(())
     }
 
@@ -169,14 +170,14 @@ impl Places {
         ensures births { self.new.births ≡ self.old.births }
     {
         if cells == 0 {
-            self.lives = self.lives.and_death(serial);
+            self.lives = self.lives.and(&Life::Death { serial });
             return;
         }
         give_back(&mut self.holes, start, cells as usize, self.top);
         self.top = drop_top(&mut self.holes, self.top);
         self.taken -= cells as usize;
         self.live -= 1;
-        self.lives = self.lives.and_death(serial);
+        self.lives = self.lives.and(&Life::Death { serial });
     }
 
     /// The used places, and the top.

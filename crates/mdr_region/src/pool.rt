@@ -5,6 +5,7 @@ ghost use Rattle.mdr_mem.specs.declared.cells.Life.TheVariants as life;
 ghost use Rattle.mdr_region.specs.Layout.{laid, layout_of};
 ghost use Rattle.mdr_region.specs.Holes.{found};
 ghost use Rattle.mdr_region.specs.Blocks.{IsBlock};
+ghost use Rattle.mdr_region.specs.Births.{IsAsBefore, IsBorn};
 ghost use Rattle.mdr_region.specs.PlacesView.{IsSound};
 ghost use Rattle.mdr_region.specs.Cells.{cells_of, written, put_cell};
 
@@ -55,18 +56,8 @@ impl Pool {
         requires few { length first.now ≤ 4294967295 }
         requires hole { is_some (found (length first.now) self.old.places.holes.items) ≡ true }
         ensures sound { IsSound self.new }
-        ensures born { OnOk result (self.new.places.lives ≡ self.old.places.lives ++ life.Birth (length first.now) ∷ []) }
-        ensures block { IfOk result (λ start. IsBlock (laid self.new.places.lives).marks self.old.places.births start (length first.now)) }
-        ensures low { IfOk result (λ start. start ≤ length self.old.values.items) }
-        ensures values { IfOk result (λ start. self.new.values.items ≡ written start first.now self.old.values.items) }
-        ensures as_before { OnErr result (self.new.places.lives ≡ self.old.places.lives) }
-        ensures same_values { OnErr result (self.new.values.items ≡ self.old.values.items) }
-        ensures cells_left { OnOk result (self.new.cells_left ≡ self.old.cells_left - length first.now) }
-        ensures births_left { OnOk result (self.new.births_left ≡ self.old.births_left - 1) }
-        ensures same_cells { OnErr result (self.new.cells_left ≡ self.old.cells_left) }
-        ensures same_births { OnErr result (self.new.births_left ≡ self.old.births_left) }
-        ensures serials { OnOk result (self.new.places.births ≡ self.old.places.births + 1) }
-        ensures same_serials { OnErr result (self.new.places.births ≡ self.old.places.births) }
+        ensures born { IfOk result (IsBorn self.old self.new first.now) }
+        ensures as_before { OnErr result (IsAsBefore self.old self.new) }
         ensures succeeds { 0 < self.old.births_left → IsOk result }
     {
         let start = self.places.birth(first.len() as u32)?;
@@ -83,18 +74,8 @@ impl Pool {
         requires few { length first.now ≤ 4294967295 }
         requires no_hole { is_some (found (length first.now) self.old.places.holes.items) ≡ false }
         ensures sound { IsSound self.new }
-        ensures born { OnOk result (self.new.places.lives ≡ self.old.places.lives ++ life.Birth (length first.now) ∷ []) }
-        ensures block { IfOk result (λ start. IsBlock (laid self.new.places.lives).marks self.old.places.births start (length first.now)) }
-        ensures low { IfOk result (λ start. start ≤ length self.old.values.items) }
-        ensures values { IfOk result (λ start. self.new.values.items ≡ written start first.now self.old.values.items) }
-        ensures as_before { OnErr result (self.new.places.lives ≡ self.old.places.lives) }
-        ensures same_values { OnErr result (self.new.values.items ≡ self.old.values.items) }
-        ensures cells_left { OnOk result (self.new.cells_left ≡ self.old.cells_left - length first.now) }
-        ensures births_left { OnOk result (self.new.births_left ≡ self.old.births_left - 1) }
-        ensures same_cells { OnErr result (self.new.cells_left ≡ self.old.cells_left) }
-        ensures same_births { OnErr result (self.new.births_left ≡ self.old.births_left) }
-        ensures serials { OnOk result (self.new.places.births ≡ self.old.places.births + 1) }
-        ensures same_serials { OnErr result (self.new.places.births ≡ self.old.places.births) }
+        ensures born { IfOk result (IsBorn self.old self.new first.now) }
+        ensures as_before { OnErr result (IsAsBefore self.old self.new) }
         ensures succeeds { length first.now ≤ self.old.cells_left → 0 < self.old.births_left → IsOk result }
     {
         self.values.reserve(first.len())?;
@@ -133,18 +114,8 @@ impl Pool {
         requires sound { IsSound self.old }
         requires few { length first.now ≤ 4294967295 }
         ensures sound { IsSound self.new }
-        ensures born { OnOk result (self.new.places.lives ≡ self.old.places.lives ++ life.Birth (length first.now) ∷ []) }
-        ensures block { IfOk result (λ start. IsBlock (laid self.new.places.lives).marks self.old.places.births start (length first.now)) }
-        ensures low { IfOk result (λ start. start ≤ length self.old.values.items) }
-        ensures values { IfOk result (λ start. self.new.values.items ≡ written start first.now self.old.values.items) }
-        ensures as_before { OnErr result (self.new.places.lives ≡ self.old.places.lives) }
-        ensures same_values { OnErr result (self.new.values.items ≡ self.old.values.items) }
-        ensures cells_left { OnOk result (self.new.cells_left ≡ self.old.cells_left - length first.now) }
-        ensures births_left { OnOk result (self.new.births_left ≡ self.old.births_left - 1) }
-        ensures same_cells { OnErr result (self.new.cells_left ≡ self.old.cells_left) }
-        ensures same_births { OnErr result (self.new.births_left ≡ self.old.births_left) }
-        ensures serials { OnOk result (self.new.places.births ≡ self.old.places.births + 1) }
-        ensures same_serials { OnErr result (self.new.places.births ≡ self.old.places.births) }
+        ensures born { IfOk result (IsBorn self.old self.new first.now) }
+        ensures as_before { OnErr result (IsAsBefore self.old self.new) }
         ensures succeeds { length first.now ≤ self.old.cells_left → 0 < self.old.births_left → IsOk result }
     {
         if first.is_empty() {

@@ -11,9 +11,9 @@ ghost use Rattle.mdr_region.specs.Slots.{row_in};
 ghost use Rattle.mdr_region.specs.RowsView.{contents_of, IsWhole};
 
 use crate::pool::Pool;
-use crate::search::{forget, place_of};
 use crate::slots::{Row, current_in, is_alive, make_slots, next_slot, row_at, settle};
 use mdr_core::{Block, OutOfMemory, Shape, Value};
+use mdr_mem::{forget, place_of};
 use mdr_model::{BirthKind, New};
 use slab::Slab;
 use std::alloc::Global;

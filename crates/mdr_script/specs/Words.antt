@@ -2,14 +2,12 @@
 -- The words of a line. 32 is a blank, 9 a tab, 44 a comma, 35 is `#`.
 use Rattle.std.specs.Prelude.{ℕ, ◌-◌, Bool, false, ◌==◌, ◌&&◌, not, nat_lt, if◌then◌else◌, List, [], ◌∷◌, length, take, drop, Option, Some, slice_index}
 use Rattle.std.specs.List.{prefix_len, list_all}
-use Rattle.mdr_syntax.specs.Bytes.{is_blank, is_letter, is_name_byte}
+use Rattle.mdr_syntax.specs.Bytes.{is_blank, is_name_byte}
+use Rattle.mdr_syntax.specs.Pieces.{begins_letter, skip_blanks}
 use Rattle.mdr_script.specs.Gives.{when}
 
 abbrev pub is_word_byte : ℕ → Bool
 is_word_byte b = not (is_blank b)
-
-abbrev pub skip_blanks : List ℕ → List ℕ
-skip_blanks bytes = drop (prefix_len is_blank bytes) bytes
 
 abbrev pub word_len : List ℕ → ℕ
 word_len bytes = prefix_len is_word_byte bytes
@@ -42,10 +40,6 @@ piece_at bytes =
 abbrev pub begins_hash : List ℕ → Bool
 begins_hash [] = false
 begins_hash (b ∷ bytes) = b == 35
-
-abbrev pub begins_letter : List ℕ → Bool
-begins_letter [] = false
-begins_letter (b ∷ bytes) = is_letter b
 
 -- a letter or `_`, then letters, digits and `_`
 unfoldable pub is_name : List ℕ → Bool

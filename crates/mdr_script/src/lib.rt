@@ -22,3 +22,4 @@ pub use line::{ArgText, Line, LineWhat, ScriptLine};
 pub use reading::read_script;
 pub use script::Script;
 pub use script_error::{ScriptError, ScriptKind};
+pub use unread::Unread;

@@ -3,8 +3,9 @@
 ghost use Rattle.std.specs.Prelude.{◌≡◌, ◌≤◌, length, take, drop};
 ghost use Rattle.std.specs.List.{prefix_len, list_all};
 ghost use Rattle.mdr_syntax.specs.Bytes.{is_blank, is_name_byte};
+ghost use Rattle.mdr_syntax.specs.Pieces.{begins_letter, skip_blanks};
 ghost use Rattle.mdr_script.specs.Gives.{Gives};
-ghost use Rattle.mdr_script.specs.Words.{is_word_byte, skip_blanks, word_len, word_at, ends, ends_comma, piece_len, piece_at, begins_hash, begins_letter, is_name, name_of};
+ghost use Rattle.mdr_script.specs.Words.{is_word_byte, word_len, word_at, ends, ends_comma, piece_len, piece_at, begins_hash, is_name, name_of};
 
 use crate::unread::Unread;
 use mdr_core::{Items, Name};

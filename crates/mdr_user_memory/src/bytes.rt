@@ -1,41 +1,19 @@
 // Bytes that the user half's code reads as one access.
 
-ghost use Rattle.std.specs.Prelude.{◌≡◌, ◌≤◌, ◌+◌, IfOk, map, nat_le, option_map};
+ghost use Rattle.std.specs.Prelude.{◌≡◌, ◌≤◌, ◌+◌, IfOk, map, nat_le};
 ghost use Rattle.std.specs.List.{list_all};
 ghost use Rattle.mdr_meaning.specs.declared.wire.Wire.TheVariants as wire;
-ghost use Rattle.mdr_meaning.specs.Values.{natural_of, wire_of, wire_view};
+ghost use Rattle.mdr_meaning.specs.Values.{wire_of, wire_view};
 ghost use Rattle.mdr_model.specs.Sets.{cells_from, is_in};
-ghost use Rattle.mdr_plain.specs.Storage.{byte_at, number_in, read, saturated_u8};
+ghost use Rattle.mdr_plain.specs.Storage.{byte_at, read};
 ghost use Rattle.mdr_user_memory.specs.Spots.{bytes_if};
 
 use crate::seen_memory::SeenMemory;
 use crate::spot::Spot;
 use mdr_copy::CellList;
 use mdr_core::{Items, StopKind, Value, View};
+use mdr_numbers::byte_in;
 use std::alloc::{AllocError, Global};
-
-/// A number as a byte: the greatest one where it is greater.
-fn byte_of(n: i128) -> u8
-    ensures { result ≡ saturated_u8 (natural_of n) }
-{
-    if n < 0 {
-        return 0;
-    }
-    if n > 255 {
-        return 255;
-    }
-    n as u8
-}
-
-fn byte_in(held: Option<Value>) -> u8
-    ensures { result ≡ number_in (option_map wire_of held) }
-{
-    match held {
-        Some(Value::Int(_, n)) => byte_of(n),
-        Some(_) => 0,
-        None => 0,
-    }
-}
 
 fn bytes_from(
     memory: &SeenMemory,

@@ -8,8 +8,8 @@ use Rattle.mdr_verify.specs.declared.reader.Stage.{Stage}
 use Rattle.mdr_verify.specs.declared.reader.Stage.TheVariants as stage
 use Rattle.mdr_verify.specs.declared.reader.Reader.{Reader}
 use Rattle.mdr_verify.specs.declared.transcript.Transcript.{Transcript}
-use Rattle.mdr_verify.specs.declared.unread.Unread.{Unread}
-use Rattle.mdr_verify.specs.declared.unread.Unread.TheVariants.{Refused, OutOfMemory}
+use Rattle.mdr_script.specs.declared.unread.Unread.{Unread}
+use Rattle.mdr_script.specs.declared.unread.Unread.TheVariants.{Refused, OutOfMemory}
 use Rattle.mdr_verify.specs.Lines.{line_at}
 use Rattle.mdr_verify.specs.Transcripts.{count_text}
 

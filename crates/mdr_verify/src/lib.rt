@@ -13,7 +13,6 @@ mod reader;
 mod reading;
 mod split;
 mod transcript;
-mod unread;
 mod verdict;
 
 pub use laws::{a_text_has_one_fault, a_text_is_one_transcript, a_transcript_has_no_fault};
@@ -22,5 +21,4 @@ pub use printed::{form_text, verdict_text};
 pub use reader::{Reader, Stage};
 pub use reading::read_transcript;
 pub use transcript::{Transcript, TranscriptError};
-pub use unread::Unread;
 pub use verdict::{Verdict, Wrong, first_difference, first_other_line, first_wrong, judge};

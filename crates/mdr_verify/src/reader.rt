@@ -9,8 +9,8 @@ ghost use Rattle.mdr_verify.specs.Steps.{is_zero, reopened, takes_sent, after_se
 
 use crate::line::{Line, line_of};
 use crate::put::{put_number, put_word};
-use crate::unread::Unread;
 use mdr_core::Items;
+use mdr_script::Unread;
 use std::alloc::{AllocError, Global};
 use std::mem;
 

@@ -8,7 +8,7 @@ ghost use Rattle.mdr_verify.specs.Reading.{Ends};
 use crate::reader::{Reader, Stage};
 use crate::split::split_line;
 use crate::transcript::{Transcript, TranscriptError};
-use crate::unread::Unread;
+use mdr_script::Unread;
 use std::alloc::Global;
 
 fn is_whole(stage: Stage) -> bool

@@ -10,10 +10,10 @@ overflow_add-self c = omega (arith, birth_fills _ _ _ _ _ _ _ c.args.cells c.mak
 
 pub returns-clause-sound : goal.returns-clause-sound
 returns-clause-sound c =
-    rw (c.and_birth.ensures, c.in-Some.ensures.holes, c.in-Some.ensures.top, c.place.ensures.capacity)
+    rw (c.and.ensures, c.in-Some.ensures.holes, c.in-Some.ensures.top, c.place.ensures.capacity)
     (kept_birth _ _ _ _ _ _ _ c.args.cells c.make_room.ensures.sound (omega (arith, c.in_ok-make_room.ensures.room, c.make_room.ensures.live)) c.requires.some)
 
 pub returns-clause-block : goal.returns-clause-block
 returns-clause-block c =
-    rw (c.and_birth.ensures, c.in-Some.ensures.start, ← c.make_room.ensures.births)
+    rw (c.and.ensures, c.in-Some.ensures.start, ← c.make_room.ensures.births)
     (birth_block _ _ _ _ _ _ _ c.args.cells c.make_room.ensures.sound c.requires.some)

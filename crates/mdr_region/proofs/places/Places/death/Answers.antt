@@ -10,7 +10,7 @@ some : (n : ℕ) → (n ≡ 0 → ⊥) → 0 < n
 some n e = omega (arith, e)
 
 pub returns-then-cells-eq0-clause-sound : goal.returns-then-cells-eq0-clause-sound
-returns-then-cells-eq0-clause-sound c = rw c.and_death.ensures (kept_death_none _ _ _ _ _ _ _ _ _ c.requires.sound (subst (λ n. IsBlock (laid c.args.self.now.lives).marks c.args.serial c.args.start n) c.if-cells-eq0.true c.requires.block))
+returns-then-cells-eq0-clause-sound c = rw c.and.ensures (kept_death_none _ _ _ _ _ _ _ _ _ c.requires.sound (subst (λ n. IsBlock (laid c.args.self.now.lives).marks c.args.serial c.args.start n) c.if-cells-eq0.true c.requires.block))
 
 pub give_back-requires-clause-rise : goal.give_back-requires-clause-rise
 give_back-requires-clause-rise c = kept_rise _ _ _ _ _ _ _ c.requires.sound
@@ -32,7 +32,7 @@ overflow_sub-self-2 c = (death_leaves _ _ _ _ _ _ _ _ _ _ c.requires.sound (some
 
 pub returns-clause-sound : goal.returns-clause-sound
 returns-clause-sound c =
-    rw (c.and_death-2.ensures, c.drop_top-self.ensures.holes, c.drop_top-self.ensures.top, c.give_back.ensures.holes)
+    rw (c.and-2.ensures, c.drop_top-self.ensures.holes, c.drop_top-self.ensures.top, c.give_back.ensures.holes)
     (kept_death _ _ _ _ _ _ _ _ _ _ _ c.requires.sound (omega (arith, c.drop_top-self.ensures.capacity, c.give_back.ensures.capacity)) (some c.args.cells c.if-cells-eq0.false) c.requires.block)
 
 pub returns-clause-spare_cells : goal.returns-clause-spare_cells

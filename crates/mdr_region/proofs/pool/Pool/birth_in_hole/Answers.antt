@@ -1,4 +1,4 @@
-use Rattle.std.proofs.Common.{◌≤◌, ◌+◌, length, arith, ap}
+use Rattle.std.proofs.Common.{◌≤◌, ◌+◌, length, arith, ap, rules}
 use Rattle.mdr_region.proofs.CellLaws.{length_written, risen_none}
 use Rattle.mdr_region.proofs.KeptLaws.{block_low}
 use Rattle.mdr_region.proofs.pool.Pool.birth_in_hole.Goals as goal
@@ -21,5 +21,13 @@ returns-clause-sound c =
       serials = omega (arith, c.in_ok-start.ensures.births, c.in_ok-start.ensures.fits, c.requires.sound.serials, c.saturating_sub-self-2.ensures);
     }
 
-pub returns-clause-low : goal.returns-clause-low
-returns-clause-low c = omega (arith, block_low _ _ _ _ _ _ _ _ _ _ c.in_ok-start.ensures.sound c.in_ok-start.ensures.block, c.in_ok-start.ensures.top, risen_none (length c.args.first.now) _ c.requires.hole, c.requires.sound.cells)
+pub returns-clause-born : goal.returns-clause-born
+returns-clause-born c = record {
+  lives = c.in_ok-start.ensures.born;
+  block = c.in_ok-start.ensures.block;
+  low = omega (arith, block_low _ _ _ _ _ _ _ _ _ _ c.in_ok-start.ensures.sound c.in_ok-start.ensures.block, c.in_ok-start.ensures.top, risen_none (length c.args.first.now) _ c.requires.hole, c.requires.sound.cells);
+  values = c.overwrite.ensures.values;
+  cells_left = search rules;
+  births_left = search rules;
+  serials = c.in_ok-start.ensures.births;
+}

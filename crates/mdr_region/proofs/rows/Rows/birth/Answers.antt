@@ -14,7 +14,7 @@ use Rattle.mdr_region.proofs.ContentLaws.{region-born, contents-born}
 use Rattle.mdr_region.proofs.rows.Rows.birth.Goals as goal
 
 pub settle-requires : goal.settle-requires
-settle-requires c = omega (arith, block_low _ _ _ _ _ _ _ _ _ _ c.birth.ensures.sound.places c.in_ok-start.ensures.block, c.birth.ensures.sound.cells)
+settle-requires c = omega (arith, block_low _ _ _ _ _ _ _ _ _ _ c.birth.ensures.sound.places c.in_ok-start.ensures.born.block, c.birth.ensures.sound.cells)
 
 pub returns-clause-whole : goal.returns-clause-whole
 returns-clause-whole c =
@@ -26,15 +26,15 @@ returns-clause-whole c =
     let key = c.insert_reserved.ensures.key ∙ sym c.in_ok-block.ensures.slot in
     let values : c.settle.new.values.items ≡ written start (map (current m.live.items) first) m.pool.values.items =
     c.settle.ensures.values
-    ∙ (ap (settled (current_at m.rows.slots) start first) c.in_ok-start.ensures.values
-    ∙ (settled-written (current_at m.rows.slots) start first m.pool.values.items c.in_ok-start.ensures.low
+    ∙ (ap (settled (current_at m.rows.slots) start first) c.in_ok-start.ensures.born.values
+    ∙ (settled-written (current_at m.rows.slots) start first m.pool.values.items c.in_ok-start.ensures.born.low
     ∙ ap (λ vs. written start vs m.pool.values.items) (currents-there m.live.items m.rows.slots (row-agrees _ _ _ _ _ w.kept) first))) in
     record {
-      kept = rw (c.push_reserved.ensures.items, values, c.in_ok-start.ensures.born, c.in_ok-start.ensures.serials)
+      kept = rw (c.push_reserved.ensures.items, values, c.in_ok-start.ensures.born.lives, c.in_ok-start.ensures.born.serials)
           (region-born m.live.items m.rows.slots c.insert_reserved.new.self.slots m.pool.values.items m.pool.places.lives m.pool.places.births w.kept w.pool.places.fresh w.pool.places.next (w.pool.cells ∙ w.pool.places.height)
           block _ first (c.in_ok-block.ensures.serial ∙ ap (λ (p : Pool). p.places.births) (sym c.next_handle.ensures.pool)) refl refl
           (rw key at c.insert_reserved.ensures.was_vacant) (rw key at c.insert_reserved.ensures.updates.changed) (λ n k. c.insert_reserved.ensures.updates.others n (λ e. k (e ∙ key)))
-          (subst (λ ls. IsBlock (laid ls).marks m.pool.places.births start (length first)) c.in_ok-start.ensures.born c.in_ok-start.ensures.block));
+          (subst (λ ls. IsBlock (laid ls).marks m.pool.places.births start (length first)) c.in_ok-start.ensures.born.lives c.in_ok-start.ensures.born.block));
       pool = record {
         places = c.birth.ensures.sound.places;
         cells = c.settle.ensures.length ∙ c.birth.ensures.sound.cells;
@@ -42,9 +42,9 @@ returns-clause-whole c =
         births = c.birth.ensures.sound.births;
         serials = c.birth.ensures.sound.serials;
       };
-      listed = omega (arith, ap length c.push_reserved.ensures.items, length-append m.live.items (block ∷ []), c.push_reserved.ensures.capacity, c.in_ok-start.ensures.births_left, w.listed, c.in_ok-block.ensures.listed);
-      room = omega (arith, c.insert_reserved.ensures.len, c.insert_reserved.ensures.capacity, c.in_ok-start.ensures.births_left, w.room, c.in_ok-block.ensures.room);
-      small = λ more. omega (arith, c.insert_reserved.ensures.capacity, w.small (omega (arith, more, c.in_ok-start.ensures.births_left)));
+      listed = omega (arith, ap length c.push_reserved.ensures.items, length-append m.live.items (block ∷ []), c.push_reserved.ensures.capacity, c.in_ok-start.ensures.born.births_left, w.listed, c.in_ok-block.ensures.listed);
+      room = omega (arith, c.insert_reserved.ensures.len, c.insert_reserved.ensures.capacity, c.in_ok-start.ensures.born.births_left, w.room, c.in_ok-block.ensures.room);
+      small = λ more. omega (arith, c.insert_reserved.ensures.capacity, w.small (omega (arith, more, c.in_ok-start.ensures.born.births_left)));
     }
 
 pub returns-clause-born : goal.returns-clause-born
@@ -57,16 +57,16 @@ returns-clause-born c =
     let key = c.insert_reserved.ensures.key ∙ sym c.in_ok-block.ensures.slot in
     let values : c.settle.new.values.items ≡ written start (map (current m.live.items) first) m.pool.values.items =
     c.settle.ensures.values
-    ∙ (ap (settled (current_at m.rows.slots) start first) c.in_ok-start.ensures.values
-    ∙ (settled-written (current_at m.rows.slots) start first m.pool.values.items c.in_ok-start.ensures.low
+    ∙ (ap (settled (current_at m.rows.slots) start first) c.in_ok-start.ensures.born.values
+    ∙ (settled-written (current_at m.rows.slots) start first m.pool.values.items c.in_ok-start.ensures.born.low
     ∙ ap (λ vs. written start vs m.pool.values.items) (currents-there m.live.items m.rows.slots (row-agrees _ _ _ _ _ w.kept) first))) in
     (λ i. record {
       handles = c.push_reserved.ensures.items i;
       memory = blocks_of (c.push_reserved.ensures.items i) (held_slots (values i) c.insert_reserved.new.self.slots) (c.push_reserved.ensures.items i);
-      lives = c.in_ok-start.ensures.born i;
+      lives = c.in_ok-start.ensures.born.lives i;
     })
     ∙ (contents-born m.live.items m.rows.slots c.insert_reserved.new.self.slots m.pool.values.items m.pool.places.lives m.pool.places.births w.kept w.pool.places.fresh w.pool.places.next (w.pool.cells ∙ w.pool.places.height)
     block (record { born = born_as c.args.kind c.args.shape block; start = start; cells = length first }) first (c.in_ok-block.ensures.serial ∙ ap (λ (p : Pool). p.places.births) (sym c.next_handle.ensures.pool)) refl refl
     (rw key at c.insert_reserved.ensures.was_vacant) (rw key at c.insert_reserved.ensures.updates.changed) (λ n k. c.insert_reserved.ensures.updates.others n (λ e. k (e ∙ key)))
-    (subst (λ ls. IsBlock (laid ls).marks m.pool.places.births start (length first)) c.in_ok-start.ensures.born c.in_ok-start.ensures.block)
+    (subst (λ ls. IsBlock (laid ls).marks m.pool.places.births start (length first)) c.in_ok-start.ensures.born.lives c.in_ok-start.ensures.born.block)
     ∙ ap (after_birth c.args.kind c.args.shape first block) c.next_handle.ensures.contents)

@@ -1,9 +1,18 @@
 // A list of all that happened so far, which contracts see and which takes no bytes.
 
-ghost use Rattle.std.specs.Prelude.{◌≡◌, []};
+ghost use Rattle.std.specs.Prelude.{◌≡◌, ◌++◌, ◌∷◌, []};
 
 use logbook::{Gain, Offer, Plain, Rule, Seen, Start};
 use std::marker::{Model, PhantomData};
+
+/// What an item of a history is told by: the item itself, or values of which it is made.
+pub trait Tells<T> {
+    ghost item: { Self → T };
+}
+
+impl<T> Tells<T> for T {
+    ghost item = { λ told. told };
+}
 
 /// The type of a list; no value of it is made.
 pub struct Listed<T> {
@@ -55,10 +64,18 @@ impl<T> Plain<(), Listed<T>, ()> for Still {
     ghost state = { λ x. None };
 }
 
-/// All items so far, in their order. What makes one more is a `Plain` of `Still`, which says what the item is.
+impl<'a, T, X: Tells<T>> Plain<(&'a History<T>, &'a X), Listed<T>, ()> for Still {
+    ghost use Rattle.std.specs.Prelude.{None, ◌++◌, ◌∷◌, []};
+
+    ghost ask = { λ x. x.0.now ++ X.item x.1.now ∷ [] };
+
+    ghost state = { λ x. None };
+}
+
+/// All items so far, in their order.
 #[derive(Drop)]
 pub struct History<T> {
-    pub(crate) offer: Offer<Listed<T>, (), Still, Still>,
+    offer: Offer<Listed<T>, (), Still, Still>,
 }
 
 impl<T> Model for History<T> {
@@ -74,12 +91,22 @@ impl<T> Model for History<T> {
 
 impl<T> History<T> {
     /// Nothing happened yet.
-    pub(crate) fn new() -> Self
+    pub fn new() -> Self
         ensures { result ≡ [] }
     {
         let (seen, _, _) = Seen::open(Start::alone(), 0, 0);
         History {
             offer: seen.plain::<Still, (), Still>(&()),
+        }
+    }
+
+    /// One item more.
+    pub fn and<X: Tells<T>>(&self, told: &X) -> Self
+        ensures { result ≡ self.now ++ X.item told.now ∷ [] }
+    {
+        let (seen, _, _) = Seen::open(Start::alone(), 0, 0);
+        History {
+            offer: seen.plain::<Still, (&History<T>, &X), Still>(&(self, told)),
         }
     }
 }
