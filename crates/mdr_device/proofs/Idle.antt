@@ -6,7 +6,7 @@ use Rattle.mdr_device.specs.declared.rule.Rule.{Rule}
 use Rattle.mdr_device.specs.declared.state.State.{State}
 use Rattle.mdr_device.specs.Rules.{is_zero, counted, rung}
 
-pub split : (a b : Bool) → (a && b) ≡ true → (a ≡ true) × (b ≡ true)
+split : (a b : Bool) → (a && b) ≡ true → (a ≡ true) × (b ≡ true)
 split true b h = (refl, h)
 split false b h = let n : false ≡ true = h in absurd (Prim.cc)
 

@@ -1,3 +1,3 @@
+pub mod HorizonLaws
 pub mod Idle
-pub mod Quiet
 pub mod WorkedLaws

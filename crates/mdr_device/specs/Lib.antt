@@ -1,4 +1,4 @@
 pub mod Rules
 pub mod Machines
-pub mod Stillness
+pub mod Horizon
 pub mod Worked

@@ -1,14 +1,14 @@
 // The device.
 
-ghost use Rattle.std.specs.Prelude.{◌≡◌, ℕ, IfOk, IsTrue, false};
+ghost use Rattle.std.specs.Prelude.{◌≡◌, ◌<◌, ◌≤◌, ℕ, IfOk, false};
+ghost use Rattle.mdr_device.specs.Horizon.{horizon, skipped};
 ghost use Rattle.mdr_device.specs.Machines.{zeros, first_words, made, read, written, ticked, advanced};
-ghost use Rattle.mdr_device.specs.Stillness.{is_still, later};
 
 use crate::copies::copied_rules;
-use crate::firing::{advance, are_idle, fire};
+use crate::firing::{advance, fire};
+use crate::horizon::{before_rules, before_zeros, later};
 use crate::rule::{Rule, Trigger};
-use crate::state::State;
-use crate::stillness::{are_past, later};
+use crate::state::{State, lower};
 use mdr_core::{Items, OutOfMemory};
 use std::alloc::{AllocError, Global};
 use std::marker::Model;
@@ -95,54 +95,57 @@ impl Device {
         self.ticks = advance(self.rules.as_slice(), self.ticks, &mut self.state);
     }
 
-    /// Lets so many ticks pass, one after the other.
-    fn tick_each(&mut self, ticks: u64)
+    /// How many of so many ticks pass before one does more than to lower count-downs.
+    fn horizon(&self, most: u64) -> u64
+        ensures { result ≡ horizon most self.now }
+    {
+        let before = before_rules(self.ticks, self.rules.as_slice(), most);
+        before_zeros(&self.state.counts, before)
+    }
+
+    /// Counts so many ticks, lowers the count-downs by as many, and does nothing else.
+    fn skip(&mut self, ticks: u64)
+        ensures { self.new ≡ skipped ticks self.old }
+    {
+        self.ticks = later(self.ticks, ticks);
+        lower(&mut self.state.counts, ticks);
+    }
+
+    /// Lets those of so many ticks pass at once in which nothing happens, or the one in which something does. It gives how
+    /// many are left.
+    fn pass(&mut self, ticks: u64) -> u64
+        requires { 1 ≤ ticks }
+        ensures fewer { result < ticks }
+        ensures passed { advanced result self.new ≡ advanced ticks self.old }
+    {
+        let calm = self.horizon(ticks);
+        if calm == 0 {
+            self.tick();
+            return ticks - 1;
+        }
+        self.skip(calm);
+        ticks - calm
+    }
+
+    /// Lets so many ticks pass.
+    pub fn advance(&mut self, ticks: u64)
         ensures { self.new ≡ advanced ticks self.old }
     {
         let mut left = ticks;
         while left > 0 {
-            self.tick();
-            left -= 1;
+            left = self.pass(left);
         }
     }
 
-    /// Whether ticks alone change nothing: no rule waits for a later one, and no count-down goes on.
-    fn is_still(&self) -> bool
-        ensures { result ≡ is_still self.now }
+    /// How many of so many ticks find the interrupt line low before them, at least.
+    pub fn low_ticks(&self, most: u64) -> u64
+        ensures few { result ≤ most }
+        ensures low { (n : ℕ) → n < result → (advanced n self.now).state.line ≡ false }
     {
-        are_past(self.ticks, self.rules.as_slice()) && are_idle(&self.state.counts)
-    }
-
-    /// Counts so many ticks, and does nothing else.
-    fn skip(&mut self, ticks: u64)
-        ensures { self.new ≡ record self.old { ticks = later ticks self.old.ticks } }
-    {
-        self.ticks = later(self.ticks, ticks);
-    }
-
-    /// Lets so many ticks pass. Where they change nothing they are counted at once.
-    #[tactic(auto, using(crate::proofs::Quiet::passes_at_once))]
-    pub fn advance(&mut self, ticks: u64)
-        ensures { self.new ≡ advanced ticks self.old }
-    {
-        if ticks == 0 {
-            return;
+        if self.state.line || most == 0 {
+            return 0;
         }
-        if self.is_still() {
-            self.skip(ticks);
-        } else {
-            self.tick_each(ticks);
-        }
-    }
-
-    /// Whether the interrupt line is low, and ticks alone don't raise it.
-    pub fn stays_low(&self) -> bool
-        ensures { IsTrue result → (n : ℕ) → (advanced n self.now).state.line ≡ false }
-    {
-        if self.state.line {
-            return false;
-        }
-        self.is_still()
+        self.horizon(most - 1) + 1
     }
 
     /// Whether the interrupt line is raised.

@@ -84,7 +84,7 @@ fn ring_all(rules: &[Rule], left: &[u32], state: &mut State)
 }
 
 /// Whether no count-down goes on.
-pub fn are_idle(counts: &[u32]) -> bool
+fn are_idle(counts: &[u32]) -> bool
     ensures { result ≡ list_all is_zero counts.now }
 {
     counts.iter().all(|n| *n == 0)
@@ -95,7 +95,7 @@ fn count_down(rules: &[Rule], state: &mut State)
     ensures { state.new ≡ counted rules.now state.old }
 {
     let left = state.counts;
-    lower(&mut state.counts);
+    lower(&mut state.counts, 1);
     ring_all(rules, &left, state);
 }
 

@@ -4,10 +4,10 @@
 mod copies;
 mod device;
 mod firing;
+mod horizon;
 mod laws;
 mod rule;
 mod state;
-mod stillness;
 
 pub use copies::copied_rules;
 pub use device::Device;

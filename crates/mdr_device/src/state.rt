@@ -43,13 +43,24 @@ fn set_count(counts: &mut [u32; 16], count: u32, ticks: u32)
     }
 }
 
-/// Takes one from each count-down that isn't zero.
-pub fn lower(counts: &mut [u32; 16])
-    ensures { counts.new ≡ map (λ n. n - 1) counts.old }
+/// What is left of a count-down behind so many ticks.
+fn less(count: u32, ticks: u64) -> u32
+    ensures { result ≡ count - ticks }
+{
+    if ticks < count as u64 {
+        count - ticks as u32
+    } else {
+        0
+    }
+}
+
+/// Takes so many ticks from each count-down, down to zero.
+pub fn lower(counts: &mut [u32; 16], ticks: u64)
+    ensures { counts.new ≡ map (λ n. n - ticks) counts.old }
 {
     let mut i = 0;
     while i < counts.len() {
-        counts[i] = counts[i].saturating_sub(1);
+        counts[i] = less(counts[i], ticks);
         i += 1;
     }
 }

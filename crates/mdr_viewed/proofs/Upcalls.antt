@@ -1,22 +1,20 @@
--- What user code asks for, and calls, with its set beside the world.
+-- What user code asks for, and what comes back from its calls, with its set beside the world.
 use Rattle.std.proofs.Common.{◌≡◌, ℕ, List, ◌∷◌, Result, Ok, Err, refl, ◌∙◌, ap}
 use Rattle.mdr_core.specs.declared.place.At.{At}
 use Rattle.mdr_extents.specs.Reaching.{Failing}
 use Rattle.mdr_meaning.specs.declared.wire.Wire.{Wire}
 use Rattle.mdr_meaning.specs.Tree.{Asked}
 use Rattle.mdr_model.specs.declared.memory.Cell.{Cell}
-use Rattle.mdr_plain.specs.Running.{call, nothing}
 use Rattle.mdr_plain.specs.Services.{served}
 use Rattle.mdr_plain.specs.Storage.{next_serial}
 use Rattle.mdr_plain.specs.World.{World, Ran, Ended, Stopped, after, left}
 use Rattle.mdr_watched.specs.Driver.{Driver, result_roots, touched_by}
 use Rattle.mdr_watched.specs.Order.{AreLive}
 use Rattle.mdr_watched.specs.Views.{gained, renewed, taken}
-use Rattle.mdr_watched.specs.Watched.{downcall, held, kernel_of, may_not, returns_to, sent, serves}
+use Rattle.mdr_watched.specs.Watched.{held, returns_to, serves}
 use Rattle.mdr_watched.proofs.KeepLaws.{served_keeps}
-use Rattle.mdr_viewed.specs.Laws.{UpcallsAreViewed, asks, goes_down, returns}
+use Rattle.mdr_viewed.specs.Laws.{UpcallsAreViewed, asks, returns}
 use Rattle.mdr_viewed.specs.Viewed.{AreOlder, HasUpcall, IsOrdered, after_beside, viewed, viewing}
-use Rattle.mdr_viewed.proofs.KernelCode.{call_keeps, called_viewed}
 use Rattle.mdr_viewed.proofs.Sets.{gains, ordered_kept, renews, sets_are_viewed}
 use Rattle.mdr_viewed.proofs.Steps.{served_viewed}
 
@@ -43,15 +41,8 @@ module _ (d : Driver) (t : ℕ) (set : List Cell) (outer : List (List Cell)) whe
       ap (λ r. taken r at (viewed (set ∷ outer) w) (λ found. Ended v (renewed found (viewed (set ∷ outer) w)))) (sets_are_viewed.known d.program (touched_by d.plan t) w.memory set (result_roots d.program f args v))
       ∙ found_viewed _ at v w (λ found is. sets_are_viewed.taken d.program (touched_by d.plan t) set (result_roots d.program f args v) found w o is)
 
-  downs_viewed : (at : At) (f : ℕ) (args : List Wire) (depth : ℕ) (w : World) → HasUpcall w → AreOlder (set ∷ outer) w → IsOrdered w → downcall d (held d) t may_not at f args depth (viewed (set ∷ outer) w) ≡ goes_down d t set outer at f args depth w
-  downs_viewed at f args depth w e older o =
-      ap (λ r. after r (returns_to d (held d) t at f (sent d (held d) t args w))) (called_viewed d f (sent d (held d) t args w) depth set outer w e older).is
-      ∙ goes_beside (set ∷ outer) (call (kernel_of d) nothing f (sent d (held d) t args w) depth w) _ _ (call_keeps d IsOrdered ordered_kept f (sent d (held d) t args w) depth w o)
-      (λ v w' o'. returns_viewed at f (sent d (held d) t args w) v w' o')
-
 pub upcalls_are_viewed : UpcallsAreViewed
 upcalls_are_viewed = record {
   asks = λ d t set outer asked w e older o. asks_viewed d t set outer asked w e older o;
-  downs = λ d t set outer at f args depth w e older o. downs_viewed d t set outer at f args depth w e older o;
   back = λ d t set outer at f args v w older o. returns_viewed d t set outer at f args v w o;
 }

@@ -11,7 +11,7 @@ use Rattle.mdr_meaning.specs.Tree.{Asked, Tree}
 use Rattle.mdr_model.specs.declared.memory.Cell.{Cell}
 use Rattle.mdr_model.specs.declared.message.BirthKind.{BirthKind}
 use Rattle.mdr_model.specs.Memory.{Memory}
-use Rattle.mdr_plain.specs.Running.{Before, Crossing, Went, all_cells, call, goes, interrupts, nothing}
+use Rattle.mdr_plain.specs.Running.{Before, Crossing, Went, all_cells, goes, interrupts, nothing}
 use Rattle.mdr_plain.specs.Services.{served}
 use Rattle.mdr_plain.specs.Storage.{accesses, births, deaths, next_serial}
 use Rattle.mdr_plain.specs.World.{World, Ran, Ended, left}
@@ -19,7 +19,7 @@ use Rattle.mdr_runs.specs.Around.{KeepsTicks}
 use Rattle.mdr_watched.specs.Driver.{Driver, result_roots, touched_by}
 use Rattle.mdr_watched.specs.Order.{AreLive}
 use Rattle.mdr_watched.specs.Views.{closed, gained, living, may_touch, new_cells, opened, renewed, taken}
-use Rattle.mdr_watched.specs.Watched.{calls_back, downcall, held, in_user, kernel_of, may_not, returns_to, sent, serves}
+use Rattle.mdr_watched.specs.Watched.{calls_back, held, in_user, kernel_of, may_not, returns_to, serves}
 use Rattle.mdr_viewed.specs.Viewed.{AreOlder, HasUpcall, IsOlder, IsOrdered, IsViewed, IsWentViewed, TouchAlike, after_beside, in_set, viewed, viewed_born, viewed_if}
 
 -- kernel code up to its next call of the other half, with this tried before its ticks
@@ -60,15 +60,10 @@ ServicesAreViewed =
     (program : Program) (asked : Asked) (set : List Cell) (outer : List (List Cell)) (w : World) → HasUpcall w → AreOlder (set ∷ outer) w
     → IsViewed (set ∷ outer) (served program asked (viewed (set ∷ outer) w)) (served program asked w)
 
+-- up to its next call of the other half kernel code does the same, and nothing is tried before its ticks
 pub record KernelCodeIsViewed : Type 0 where
-  pub called : (d : Driver) (f : ℕ) (args : List Wire) (depth : ℕ) (set : List Cell) (outer : List (List Cell)) (w : World) → HasUpcall w → AreOlder (set ∷ outer) w
-      → IsViewed (set ∷ outer) (call (kernel_of d) (interrupts (kernel_of d)) f args depth (viewed (set ∷ outer) w)) (call (kernel_of d) nothing f args depth w)
-  -- and up to its next call of the other half
   pub goes : (d : Driver) (t : Tree) (set : List Cell) (outer : List (List Cell)) (w : World) → HasUpcall w → AreOlder (set ∷ outer) w
       → IsWentViewed (set ∷ outer) (kernel_goes d (interrupts (kernel_of d)) t (viewed (set ∷ outer) w)) (kernel_goes d nothing t w)
-  -- while an upcall is open nothing is tried
-  pub waits : (d : Driver) (f : ℕ) (args : List Wire) (depth : ℕ) (w : World) → HasUpcall w
-      → call (kernel_of d) (interrupts (kernel_of d)) f args depth w ≡ call (kernel_of d) nothing f args depth w
 
 -- ---- sets
 
@@ -100,14 +95,9 @@ module _ (d : Driver) (t : ℕ) (set : List Cell) (outer : List (List Cell)) whe
   abbrev pub returns : At → (func : ℕ) (args : List Wire) → Wire → World → Ran Wire
   returns at f args v w = taken (visible d.program (touched_by d.plan t) w.memory set (result_roots d.program f args v)) at (viewed (set ∷ outer) w) (λ found. Ended v (viewed (found ∷ outer) w))
 
-  abbrev pub goes_down : At → (func : ℕ) (args : List Wire) (depth : ℕ) → World → Ran Wire
-  goes_down at f args depth w = after_beside (set ∷ outer) (call (kernel_of d) nothing f (sent d (held d) t args w) depth w) (returns at f (sent d (held d) t args w))
-
 pub record UpcallsAreViewed : Type 0 where
   pub asks : (d : Driver) (t : ℕ) (set : List Cell) (outer : List (List Cell)) (asked : Asked) (w : World) → HasUpcall w → AreOlder (set ∷ outer) w → IsOrdered w
       → serves d (held d) t asked (viewed (set ∷ outer) w) ≡ asks d t set outer asked w
-  pub downs : (d : Driver) (t : ℕ) (set : List Cell) (outer : List (List Cell)) (at : At) (f : ℕ) (args : List Wire) (depth : ℕ) (w : World) → HasUpcall w → AreOlder (set ∷ outer) w → IsOrdered w
-      → downcall d (held d) t may_not at f args depth (viewed (set ∷ outer) w) ≡ goes_down d t set outer at f args depth w
   -- where kernel code gave a result
   pub back : (d : Driver) (t : ℕ) (set : List Cell) (outer : List (List Cell)) (at : At) (f : ℕ) (args : List Wire) (v : Wire) (w : World) → AreOlder (set ∷ outer) w → IsOrdered w
       → returns_to d (held d) t at f args v (viewed (set ∷ outer) w) ≡ returns d t set outer at f args v w

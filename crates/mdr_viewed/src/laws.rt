@@ -18,7 +18,7 @@ pub fn services_are_viewed()
     ensures { ServicesAreViewed }
 {}
 
-/// So does code of the kernel half that user code calls: interrupts wait.
+/// So does code of the kernel half that user code calls, up to its next call back: interrupts wait.
 pub fn kernel_code_is_viewed()
     ensures { KernelCodeIsViewed }
 {}
@@ -29,7 +29,7 @@ pub fn sets_are_viewed()
     ensures { SetsAreViewed }
 {}
 
-/// What user code asks for, and what it calls, with the set beside the world.
+/// What user code asks for, and what comes back from what it calls, with the set beside the world.
 pub fn upcalls_are_viewed()
     ensures { UpcallsAreViewed }
 {}

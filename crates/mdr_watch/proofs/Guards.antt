@@ -31,7 +31,7 @@ use Rattle.mdr_watched.proofs.KeepLaws.{deaths_keep}
 use Rattle.mdr_viewed.proofs.Sets.{sets_are_viewed}
 use Rattle.mdr_watched.specs.Order.{AreLive}
 use Rattle.mdr_watched.specs.Views.{below, closed, living, may_touch, opened}
-use Rattle.mdr_world.specs.Driven.{Driven, Ticks, driven_accesses, driver, driver_if, open_views}
+use Rattle.mdr_world.specs.Driven.{Driven, driven_accesses, driver, driver_if, open_views}
 use Rattle.mdr_watch.specs.declared.guarded.Closing.{Closing}
 use Rattle.mdr_watch.specs.declared.guarded.Closing.TheVariants as closing
 use Rattle.mdr_watch.specs.declared.sets.Sets.{Sets}
@@ -134,7 +134,7 @@ module _ (program : Program) (set : List Cell) (outer : List (List Cell)) (w : W
   pub fresh_goes : (g : Driven) → driver program (viewed (set ∷ outer) w) ≡ g → (v : Wire) → driven_accesses.fresh (driver program w) v ≡ guarded_accesses.fresh g v
   fresh_goes g is v = ap (λ d. guarded_accesses.fresh d v) is
 
--- ---- stores, deaths and ticks leave the set beside the world
+-- ---- stores and deaths leave the set beside the world
 
 pub guarded_with : (set : List Cell) (outer : List (List Cell)) (w : World) (m : Memory) → IsGuarded (set ∷ outer) w → IsGuarded (set ∷ outer) (with_memory w m)
 guarded_with set outer w m g = record { upcall = g.upcall; older = g.older }
@@ -217,14 +217,6 @@ module _ (program : Program) (set : List Cell) (outer : List (List Cell)) (w : W
 
 pub death_guarded : (set : List Cell) (outer : List (List Cell)) (w : World) (ps : List Wire) → IsGuarded (set ∷ outer) w → IsGuarded (set ∷ outer) (deaths ps w)
 death_guarded set outer w ps g = let b = deaths_keep (IsBeside (set ∷ outer)) (beside_kept (set ∷ outer)) ps w (record { upcall = g.upcall; older = g.older; some = refl }) in record { upcall = b.upcall; older = b.older }
-
-pub tick_goes : (set : List Cell) (outer : List (List Cell)) (t : Bool) (d d' : Driven) → Ticks t d d' → Ticks t (driver d.program (viewed (set ∷ outer) d.world)) (driver d'.program (viewed (set ∷ outer) d'.world))
-tick_goes set outer true d d' t = (t.0, t.1, ap (λ (x : Driven). driver x.program (viewed (set ∷ outer) x.world)) t.2)
-tick_goes set outer false d d' t = (t.0, ap (λ (x : Driven). driver x.program (viewed (set ∷ outer) x.world)) t.1)
-
-pub tick_guarded : (set : List Cell) (outer : List (List Cell)) (t : Bool) (d d' : Driven) → Ticks t d d' → IsGuarded (set ∷ outer) d.world → IsGuarded (set ∷ outer) d'.world
-tick_guarded set outer true d d' t g = subst (λ (x : Driven). IsGuarded (set ∷ outer) x.world) (sym t.2) (record { upcall = g.upcall; older = g.older })
-tick_guarded set outer false d d' t g = subst (λ (x : Driven). IsGuarded (set ∷ outer) x.world) (sym t.1) g
 
 -- an empty set stands alone beside any world in which an upcall is open
 pub forgotten : (set : List Cell) (outer : List (List Cell)) (d d' : Driven) → set ≡ [] → outer ≡ [] → d' ≡ driver d.program (record d.world { views = open_views true }) → IsGuarded (set ∷ outer) d'.world

@@ -1,5 +1,6 @@
 mod Sides
 mod Guards
+mod Through
 mod Turns
 mod Below
 mod Nested

@@ -40,7 +40,8 @@ use Rattle.mdr_watch.specs.Going.{IsStarted, held_in, program_in, user_does}
 use Rattle.mdr_watch.specs.Leaving.{GaveFor, IsOnly, IsWithin, with_views}
 use Rattle.mdr_watch.specs.Nesting.{IsElsewhere, IsSent, calls_back_in, entered_in, passes_on, runs_in, upcalls_in}
 use Rattle.mdr_watch.specs.Watching.{around_user, backs_in, begins_with, downcalls_in, driver_in, touched_in, user_side}
-use Rattle.mdr_watch.proofs.Turns.{keeps, nothing_gives}
+use Rattle.mdr_watch.proofs.Through.{nothing_gives}
+use Rattle.mdr_watch.proofs.Turns.{keeps}
 
 -- ---- code of the kernel half calls back
 

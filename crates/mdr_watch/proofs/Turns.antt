@@ -1,5 +1,5 @@
 -- A machine that runs user code goes from event to event.
-use Rattle.std.proofs.Common.{◌≡◌, ℕ, ◌+◌, ◌≤◌, Bool, true, false, List, [], ◌∷◌, Option, Some, refl, sym, ◌∙◌, ap, subst, le_refl, arith}
+use Rattle.std.proofs.Common.{◌≡◌, ℕ, ◌+◌, ◌-◌, ◌≤◌, List, [], ◌∷◌, Option, Some, refl, sym, ◌∙◌, ap, subst, le_refl, arith}
 use Rattle.mdr_core.specs.declared.place.At.{At}
 use Rattle.mdr_core.specs.declared.plan.Half.{Half}
 use Rattle.mdr_core.specs.declared.program.Program.{Program}
@@ -29,43 +29,40 @@ use Rattle.mdr_meaning.specs.Tree.{Tree}
 use Rattle.mdr_meaning.specs.Values.{wire_of}
 use Rattle.mdr_meaning.specs.Walk.{Walked, walk, walked}
 use Rattle.mdr_model.specs.Memory.{normal}
-use Rattle.mdr_plain.specs.Laws.{GivesNoTicks}
 use Rattle.mdr_plain.specs.Running.{nothing, run}
 use Rattle.mdr_plain.specs.Storage.{accesses, next_serial}
-use Rattle.mdr_plain.specs.World.{World, Ran, Ended, Stopped, after, left}
+use Rattle.mdr_plain.specs.World.{World, Clock, Ran, Ended, Stopped, advanced, after, left}
 use Rattle.mdr_runs.specs.Around.{IsSeenBy, KeepsTicks, StandsIn, answered_in}
 use Rattle.mdr_runs.proofs.EndsAnywhere.{budget_ends, crossing_ends, service_ends, stop_ends, value_ends}
 use Rattle.mdr_runs.proofs.Many.{as_many_behind}
-use Rattle.mdr_runs.proofs.Standing.{run_stands, tick_stands}
+use Rattle.mdr_runs.proofs.Standing.{run_stands}
 use Rattle.mdr_services.specs.declared.answer.Served.{Served}
 use Rattle.mdr_services.specs.declared.answer.Served.TheVariants as served_is
 use Rattle.mdr_services.specs.Serving.{served_as}
 use Rattle.mdr_viewed.proofs.Ticks.{user_code_keeps_ticks}
 use Rattle.mdr_watched.specs.Driver.{touched_by}
 use Rattle.mdr_watched.specs.Views.{gained, may_touch}
-use Rattle.mdr_world.specs.Driven.{Driven, Ticks}
+use Rattle.mdr_world.specs.Driven.{Driven, driver}
 use Rattle.mdr_world.proofs.WalkLaws.{drivers_walk}
 use Rattle.mdr_whole.specs.declared.ending.Gave.{Gave}
 use Rattle.mdr_whole.specs.declared.ending.Gave.TheVariants as gave
 use Rattle.mdr_watch.specs.declared.next.Next.{Next}
 use Rattle.mdr_watch.specs.declared.next.Next.TheVariants as next
 use Rattle.mdr_whole.specs.Ending.{gave_as}
-use Rattle.mdr_whole.specs.Going.{Counted}
+use Rattle.mdr_whole.proofs.Clocks.{at_clock}
 use Rattle.mdr_watch.specs.declared.watch.Activation.{Activation}
 use Rattle.mdr_watch.specs.declared.watch.Upcall.{Upcall}
-use Rattle.mdr_watch.specs.Going.{Began, GoesOn, GoesOnWith, IsStarted, NextAt, Passed, StandsAt, held_in, program_in, user_does}
+use Rattle.mdr_watch.specs.Going.{Began, GoesOn, GoesOnWith, IsStarted, NextAt, RanThrough, StandsAt, held_in, program_in, user_does}
 use Rattle.mdr_watch.specs.Guarding.{guarded_accesses}
 use Rattle.mdr_watch.specs.Watching.{IsFit, around_user, backs_in, driver_in, user_side}
 use Rattle.mdr_watch.proofs.Sides.{user_is}
+use Rattle.mdr_watch.proofs.Through.{clock_stays, goes_through, nothing_gives}
 
 abbrev world_in : Driven → World
 world_in d = d.world
 
 abbrev program_of : Driven → Program
 program_of d = d.program
-
-pub nothing_gives : GivesNoTicks nothing
-nothing_gives d w = le_refl w.clock.rest
 
 -- ---- the memory of user code is seen as a world
 
@@ -101,30 +98,43 @@ module _ (a : Activation) where
       let w = run_stands (around_user a) nothing keeps nothing_gives guarded_accesses world_in program_of prog seen (user_side a.upcall) (held_in a.upcall m) (held_in a.upcall m') d d' e rest fuel same enough ran in
       record { stands = w.stands; same = w.same; left = ran_leaves guarded_accesses (user_side a.upcall) (held_in a.upcall m) (held_in a.upcall m') d d' 0 e rest ready ran }
 
-  pub passed : (m m' : Machine) (d d' : Driven) (e : Event) (rest : ℕ) → d.program ≡ prog → IsReady (held_in a.upcall m) → RanTo guarded_accesses (user_side a.upcall) (held_in a.upcall m) d 1 e (held_in a.upcall m') d' rest → Passed a m d m' e d'
-  passed m m' d d' e rest same ready ran = λ fuel all at w s n.
-      let x = tick_stands (around_user a) nothing keeps nothing_gives guarded_accesses world_in program_of prog seen (user_side a.upcall) (held_in a.upcall m) (held_in a.upcall m') at w w d d' e rest fuel n.left all same s refl n.one n.counted ran in
-      record { stands = x.stands; same = x.same; left = ran_leaves guarded_accesses (user_side a.upcall) (held_in a.upcall m) (held_in a.upcall m') d d' 1 e rest ready ran }
+  -- ---- all ticks that are left
+
+  spent_is : (ticks used : ℕ) → used ≤ ticks → ticks - (ticks - used) ≡ used
+  spent_is ticks used less = let l : used ≤ ticks = less in omega (arith, l)
+
+  module _ (m m' : Machine) (d d1 : Driven) (e : Event) (ticks used : ℕ) (same : d.program ≡ prog) (all_ticks : ticks ≡ d.world.clock.rest) (less : used ≤ ticks)
+      (ran : RanTo guarded_accesses (user_side a.upcall) (held_in a.upcall m) d ticks e (held_in a.upcall m') d1 (ticks - used)) where
+    pub ran_through : (d2 : Driven) → IsReady (held_in a.upcall m) → d2 ≡ driver d1.program (record d1.world { clock = advanced used d1.world.clock }) → RanThrough a m d m' e d2
+    ran_through d2 ready counts = λ fuel all at s.
+        let enough : ticks ≤ d.world.clock.rest = (let h : ticks ≡ d.world.clock.rest = all_ticks in omega (arith, h)) in
+        let t = goes_through prog (around_user a).serves (around_user a).crosses keeps guarded_accesses world_in program_of seen (user_side a.upcall) d same (held_in a.upcall m) (held_in a.upcall m') d1 e at ticks (ticks - used) fuel all enough s.stands ran in
+        let spent : StandsIn (around_user a) (user_side a.upcall) nothing fuel all (held_in a.upcall m') e (at_clock (advanced used d1.world.clock) d1.world) =
+        subst (λ n. StandsIn (around_user a) (user_side a.upcall) nothing fuel all (held_in a.upcall m') e (at_clock (advanced n d1.world.clock) d1.world)) (spent_is ticks used less) t.stands in
+        record {
+          stands = subst (λ w. StandsIn (around_user a) (user_side a.upcall) nothing fuel all (held_in a.upcall m') e w) (sym (ap world_in counts)) spent;
+          same = ap program_of counts ∙ t.same;
+          left = ran_leaves guarded_accesses (user_side a.upcall) (held_in a.upcall m) (held_in a.upcall m') d d1 ticks e (ticks - used) ready ran;
+        }
+
+    -- no more are taken than the budget left
+    pub none_beyond : used ≤ d1.world.clock.rest
+    none_beyond =
+        let stays : d1.world.clock ≡ d.world.clock =
+        clock_stays prog (around_user a).serves (around_user a).crosses keeps guarded_accesses world_in program_of seen (user_side a.upcall) d same (held_in a.upcall m) (held_in a.upcall m') d1 e ticks (ticks - used) ran in
+        let rest : d1.world.clock.rest ≡ d.world.clock.rest = ap (λ (c : Clock). c.rest) stays in
+        let all : ticks ≡ d.world.clock.rest = all_ticks in
+        let few : used ≤ ticks = less in
+        omega (arith, rest, all, few)
 
   -- ---- a tick
 
-  tick_counted : (d d' : Driven) → Ticks true d d' → Counted d.world d'.world
-  tick_counted d d' t = record { left = t.0; one = t.1; counted = ap world_in t.2 }
+  pub ticked_on : (at : At) (m m' : Machine) (d d' : Driven) (e : Event) → RanThrough a m d m' e d' → GoesOn a m (event.TicksOut at) d m' (next.Came e) d'
+  ticked_on at m m' d d' e through = λ fuel all s. through fuel all at s
 
-  pub tick_keeps : (t : Bool) (d d' : Driven) → Ticks t d d' → d'.program ≡ d.program
-  tick_keeps true d d' t = ap program_of t.2
-  tick_keeps false d d' t = ap program_of t.1
-
-  pub ticked_on : (at : At) (m m' : Machine) (d d1 d' : Driven) (e : Event) (t : Bool) → t ≡ true → Ticks t d d1 → Passed a m d1 m' e d' → GoesOn a m (event.TicksOut at) d m' (next.Came e) d'
-  ticked_on at m m' d d1 d' e true h ticks p = λ fuel all s. p fuel all at d.world s.stands (tick_counted d d1 ticks)
-  ticked_on at m m' d d1 d' e false h ticks p = absurd (cc h)
-
-  pub ticked_out : (at : At) (m m' : Machine) (d d1 : Driven) (t : Bool) → t ≡ false → Ticks t d d1 → GoesOn a m (event.TicksOut at) d m' (next.Gave (gave.Stopped stop.Ticks (Some at))) d1
-  ticked_out at m m' d d1 false h ticks = λ fuel all s. (
-    ap (λ w. Stopped stop.Ticks (Some at) w) (ap world_in ticks.1) ∙ budget_ends (around_user a) (user_side a.upcall) nothing fuel all (held_in a.upcall m) at d.world d.world s.stands refl ticks.0,
-    ap program_of ticks.1 ∙ s.same,
-  )
-  ticked_out at m m' d d1 true h ticks = absurd (cc h)
+  -- none is left
+  pub ticked_out : (at : At) (m m' : Machine) (d : Driven) → d.world.clock.rest ≡ 0 → GoesOn a m (event.TicksOut at) d m' (next.Gave (gave.Stopped stop.Ticks (Some at))) d
+  ticked_out at m m' d none = λ fuel all s. (budget_ends (around_user a) (user_side a.upcall) nothing fuel all (held_in a.upcall m) at d.world d.world s.stands refl none, s.same)
 
   -- ---- answers
 

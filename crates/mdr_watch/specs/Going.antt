@@ -21,7 +21,6 @@ use Rattle.mdr_world.specs.Driven.{Driven}
 use Rattle.mdr_watch.specs.declared.next.Next.{Next}
 use Rattle.mdr_watch.specs.declared.next.Next.TheVariants as next
 use Rattle.mdr_whole.specs.Ending.{gave_as}
-use Rattle.mdr_whole.specs.Going.{Counted}
 use Rattle.mdr_watch.specs.declared.watch.Activation.{Activation}
 use Rattle.mdr_watch.specs.declared.watch.Upcall.{Upcall}
 use Rattle.mdr_watch.specs.Guarding.{guarded_accesses}
@@ -63,11 +62,9 @@ NextAt a fuel all machine (next.Gave g) d = (gave_as g d.world ≡ all) × (d.pr
 abbrev pub Began : Activation → Machine → Driven → Machine → Event → Driven → Type 0
 Began a machine d machine' e d' = (fuel : ℕ) → d.world.clock.rest ≤ fuel → StandsAt a fuel (user_does a fuel machine d.world) machine' e d'
 
--- it ran with the tick that was wanted and counted
-abbrev pub Passed : Activation → Machine → Driven → Machine → Event → Driven → Type 0
-Passed a machine d machine' e d' =
-    (fuel : ℕ) (all : Ran Wire) (at : At) (w : World)
-    → StandsIn (around_user a) (user_side a.upcall) nothing fuel all (held_in a.upcall machine) (event.TicksOut at) w → Counted w d.world → StandsAt a fuel all machine' e d'
+-- it ran with all ticks that were left, and those that it took were counted
+abbrev pub RanThrough : Activation → Machine → Driven → Machine → Event → Driven → Type 0
+RanThrough a machine d machine' e d' = (fuel : ℕ) (all : Ran Wire) (at : At) → StandsAt a fuel all machine (event.TicksOut at) d → StandsAt a fuel all machine' e d'
 
 -- what follows an event
 abbrev pub GoesOn : Activation → Machine → Event → Driven → Machine → Next → Driven → Type 0

@@ -5,7 +5,6 @@ ghost use Rattle.mdr_core.specs.Sound.{IsSound};
 ghost use Rattle.mdr_events.specs.Values.{wires_of};
 ghost use Rattle.mdr_meaning.specs.Values.{wire_of};
 ghost use Rattle.mdr_model.specs.declared.command.Command.TheVariants as command;
-ghost use Rattle.mdr_plain.specs.Atomic.{is_atomic};
 ghost use Rattle.mdr_plain.specs.Running.{interrupts};
 ghost use Rattle.mdr_plain.specs.Scripts.{begun, commands, returned};
 ghost use Rattle.mdr_watched.specs.Driver.{is_user as is_user_in};
@@ -172,45 +171,7 @@ fn goes_on<'a>(
     }
 }
 
-/// It calls a function of the user half, with its arguments as they are now.
-fn passes<'a>(
-    alloc: Global,
-    watch: Watch,
-    crossing: &Crossing,
-    world: World<'a>,
-) -> Result<Closed<'a>, OutOfMemory>
-    requires sound { IsSound watch.program.now }
-    requires fit { IsFit watch }
-    requires bodies { HaveBodies watch.program.now }
-    requires same { world.program ≡ watch.program.now }
-    requires alone { world.world.views ≡ [] }
-    requires may { is_atomic world.world ≡ false }
-    ensures kept { IfOk result (λ r. r.world.program ≡ watch.entry.program.now) }
-    ensures alone { IfOk result (λ r. r.world.world.views ≡ []) }
-    ensures gave { IfOk result (λ r. GaveFor r.gave r.world.world (gives_back watch.entry crossing.now world.entry.world)) }
-{
-    match sent(alloc, &world, crossing.args.as_slice()) {
-        Ok(args) => {
-            let activation = Activation {
-                upcall: Upcall {
-                    watch,
-                    func: crossing.func,
-                },
-                depth: crossing.depth,
-                room: 255,
-            };
-            let closed = call_user(alloc, activation, args.as_slice(), world);
-            drop(args);
-            closed
-        }
-        Err(error) => {
-            drop(world);
-            Err(error)
-        }
-    }
-}
-
-/// It calls back: an upcall, where it may wait.
+/// It calls back: an upcall with its arguments as they are now, where it may wait.
 fn calls_back<'a>(
     alloc: Global,
     watch: Watch,
@@ -230,7 +191,23 @@ fn calls_back<'a>(
         let gave = Gave::Stopped(StopKind::Atomic, Some(crossing.at));
         return Ok(Closed { gave, world });
     }
-    passes(alloc, watch, crossing, world)
+    let func = crossing.func;
+    let activation = Activation {
+        upcall: Upcall { watch, func },
+        depth: crossing.depth,
+        room: 255,
+    };
+    match sent(alloc, &world, crossing.args.as_slice()) {
+        Ok(args) => {
+            let closed = call_user(alloc, activation, args.as_slice(), world);
+            drop(args);
+            closed
+        }
+        Err(error) => {
+            drop(world);
+            Err(error)
+        }
+    }
 }
 
 /// What a call back gave: it goes on with that, or the run stopped.

@@ -1,14 +1,15 @@
 // The state of a run while a function of the user half is active.
 
-ghost use Rattle.std.specs.Prelude.{◌≡◌, [], ◌∷◌, ℕ, suc, length, IfOk, OnOk};
+ghost use Rattle.std.specs.Prelude.{◌≡◌, ◌≤◌, [], ◌∷◌, ℕ, suc, length, IfOk, OnOk};
 ghost use Rattle.mdr_events.specs.Values.{wires_of};
 ghost use Rattle.mdr_meaning.specs.Values.{wire_of};
 ghost use Rattle.mdr_model.specs.Memory.{normal};
 ghost use Rattle.mdr_plain.specs.Atomic.{is_atomic};
+ghost use Rattle.mdr_plain.specs.World.{advanced};
 ghost use Rattle.mdr_viewed.specs.Viewed.{IsOlder};
 ghost use Rattle.mdr_watched.specs.Order.{AreLive};
 ghost use Rattle.mdr_watched.specs.Views.{below, closed, living, opened, top};
-ghost use Rattle.mdr_world.specs.Driven.{Ticks, driver};
+ghost use Rattle.mdr_world.specs.Driven.{driver};
 ghost use Rattle.mdr_watch.specs.Leaving.{IsClosed, with_views};
 ghost use Rattle.mdr_watch.specs.Guarding.{IsGuarded, beside, guarded_accesses, sets_of};
 
@@ -292,11 +293,19 @@ impl<'a> Guarded<'a> {
         pop_set(alloc, &mut self.sets);
     }
 
-    /// One tick, if one is left.
-    pub fn tick(&mut self) -> bool
-        ensures { Ticks result self.old self.new }
+    /// The ticks that the budget leaves.
+    pub(crate) fn rest(&self) -> u64
+        ensures { result ≡ self.now.world.clock.rest }
     {
-        self.world.tick()
+        self.world.rest()
+    }
+
+    /// So many ticks, where as many are left.
+    pub(crate) fn count(&mut self, ticks: u64)
+        requires { ticks ≤ self.old.world.clock.rest }
+        ensures { self.new ≡ driver self.old.program (record self.old.world { clock = advanced ticks self.old.world.clock }) }
+    {
+        self.world.count(ticks);
     }
 
     /// A value as it is now: a pointer whose block doesn't live is a dead one.

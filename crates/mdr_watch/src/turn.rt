@@ -1,6 +1,6 @@
 // User code runs from event to event.
 
-ghost use Rattle.std.specs.Prelude.{◌≡◌, IfOk, OnOk};
+ghost use Rattle.std.specs.Prelude.{◌≡◌, ◌≤◌, IfOk, OnOk};
 ghost use Rattle.mdr_core.specs.Sound.{IsSound};
 ghost use Rattle.mdr_events.specs.declared.event.Event.TheVariants as event;
 ghost use Rattle.mdr_events.specs.Going.{LeavesAt};
@@ -8,7 +8,7 @@ ghost use Rattle.mdr_events.specs.Ready.{IsReady};
 ghost use Rattle.mdr_events.specs.Values.{wires_of};
 ghost use Rattle.mdr_exec.specs.Holding.{Takes, held_of};
 ghost use Rattle.mdr_whole.specs.Ending.{gave_as};
-ghost use Rattle.mdr_watch.specs.Going.{Began, GoesOn, GoesOnWith, Passed, RanIn, user_does};
+ghost use Rattle.mdr_watch.specs.Going.{GoesOn, GoesOnWith, RanIn, RanThrough, user_does};
 ghost use Rattle.mdr_watch.specs.Watching.{HaveBodies, IsFit};
 
 use crate::asks::ask;
@@ -23,7 +23,8 @@ use mdr_services::Served;
 use mdr_whole::Gave;
 use std::alloc::Global;
 
-/// Runs a machine with so many ticks, on the code of the user half.
+/// Runs a machine with so many ticks, on the code of the user half: with none up to its first event or the first tick that
+/// it needs.
 fn go(
     machine: &mut Machine,
     alloc: Global,
@@ -34,7 +35,8 @@ fn go(
     requires sound { IsSound upcall.watch.program.now }
     requires fit { IsFit upcall.watch }
     requires ready { IsReady (held_of upcall.watch.program.now machine.old) }
-    ensures { IfOk result (λ e. RanIn upcall.entry machine.old guarded.old ticks e machine.new guarded.new) }
+    ensures ran { IfOk result (λ e. RanIn upcall.entry machine.old guarded.old ticks e machine.new guarded.new) }
+    ensures used { OnOk result (machine.new.used ≤ ticks) }
 {
     machine.side = Side::User;
     let halves = upcall.watch.plan.halves.as_slice();
@@ -42,8 +44,8 @@ fn go(
     Ok(event)
 }
 
-/// Runs a machine up to its first event or the first tick that it needs.
-fn begin(
+/// Runs a machine with all ticks that are left, since nothing is tried before them, and counts those that it took.
+fn run_through(
     machine: &mut Machine,
     alloc: Global,
     activation: Activation,
@@ -53,30 +55,15 @@ fn begin(
     requires fit { IsFit activation.upcall.watch }
     requires same { guarded.old.program ≡ activation.upcall.watch.program.now }
     requires ready { IsReady (held_of activation.upcall.watch.program.now machine.old) }
-    ensures { IfOk result (λ e. Began activation.entry machine.old guarded.old machine.new e guarded.new) }
+    ensures { IfOk result (λ e. RanThrough activation.entry machine.old guarded.old machine.new e guarded.new) }
 {
-    let event = go(machine, alloc, activation.upcall, guarded, 0)?;
+    let ticks = guarded.rest();
+    let event = go(machine, alloc, activation.upcall, guarded, ticks)?;
+    guarded.count(machine.used());
     Ok(event)
 }
 
-/// Runs a machine with the tick that was counted for it.
-fn go_on(
-    machine: &mut Machine,
-    alloc: Global,
-    activation: Activation,
-    guarded: &mut Guarded,
-) -> Result<Event, OutOfMemory>
-    requires sound { IsSound activation.upcall.watch.program.now }
-    requires fit { IsFit activation.upcall.watch }
-    requires same { guarded.old.program ≡ activation.upcall.watch.program.now }
-    requires ready { IsReady (held_of activation.upcall.watch.program.now machine.old) }
-    ensures { IfOk result (λ e. Passed activation.entry machine.old guarded.old machine.new e guarded.new) }
-{
-    let event = go(machine, alloc, activation.upcall, guarded, 1)?;
-    Ok(event)
-}
-
-/// A tick is wanted: it is counted, if one is left, and user code goes on. Nothing is tried before it.
+/// A tick is wanted: user code goes on, if one is left.
 fn tick(
     machine: &mut Machine,
     alloc: Global,
@@ -90,11 +77,11 @@ fn tick(
     requires ready { IsReady (held_of activation.upcall.watch.program.now machine.old) }
     ensures { IfOk result (λ n. GoesOn activation.entry machine.old (event.TicksOut at) guarded.old machine.new n guarded.new) }
 {
-    if guarded.tick() {
-        let event = go_on(machine, alloc, activation, guarded)?;
-        return Ok(Next::Came(event));
+    if guarded.rest() == 0 {
+        return Ok(Next::Gave(Gave::Stopped(StopKind::Ticks, Some(at))));
     }
-    Ok(Next::Gave(Gave::Stopped(StopKind::Ticks, Some(at))))
+    let event = run_through(machine, alloc, activation, guarded)?;
+    Ok(Next::Came(event))
 }
 
 /// Goes on with the answers of the question that is open.
@@ -112,7 +99,7 @@ fn resume(
     ensures { IfOk result (λ n. GoesOnWith activation.entry (wires_of results.now) machine.old guarded.old machine.new n guarded.new) }
 {
     machine.resume(results);
-    let event = begin(machine, alloc, activation, guarded)?;
+    let event = go(machine, alloc, activation.upcall, guarded, 0)?;
     Ok(Next::Came(event))
 }
 
@@ -222,7 +209,7 @@ pub(crate) fn run(
     ensures kept { OnOk result (guarded.new.program ≡ activation.entry.upcall.watch.program.now) }
     ensures gave { IfOk result (λ g. gave_as g guarded.new.world ≡ user_does activation.entry guarded.old.world.clock.rest machine.old guarded.old.world) }
 {
-    let mut event = begin(machine, alloc, activation, guarded)?;
+    let mut event = go(machine, alloc, activation.upcall, guarded, 0)?;
     let mut turns: u64 = 0;
     while turns < u64::MAX {
         turns += 1;

@@ -1,5 +1,5 @@
 -- Many ticks at once, where nothing is done before them: code runs through, and then the ticks are counted.
-use Rattle.std.proofs.Common.{◌≡◌, ℕ, zero, suc, ◌+◌, ◌-◌, ◌≤◌, true, List, [], ◌∷◌, Result, Ok, Err, refl, sym, ◌∙◌, ap, arith, le_refl, subst}
+use Rattle.std.proofs.Common.{◌≡◌, ℕ, zero, suc, ◌+◌, ◌-◌, ◌<◌, ◌≤◌, true, [], ◌∷◌, Result, Ok, Err, refl, sym, ◌∙◌, ap, arith, le_refl, subst, suc-le-suc}
 use mathlib.Core.Path.{fun_ext}
 use Rattle.mdr_core.specs.declared.place.At.{At}
 use Rattle.mdr_core.specs.declared.program.Program.{Program}
@@ -9,12 +9,7 @@ use Rattle.mdr_events.specs.declared.event.Event.TheVariants as event
 use Rattle.mdr_events.specs.Events.{asked_as}
 use Rattle.mdr_events.specs.Going.{RanTo}
 use Rattle.mdr_events.specs.Held.{Held, tree}
-use Rattle.mdr_events.specs.Running.{RunsTo}
-use Rattle.mdr_events.specs.Steps.{after as came_after}
 use Rattle.mdr_events.specs.Values.{wires_of}
-use Rattle.mdr_meaning.specs.declared.shape.Shape64.{Shape64}
-use Rattle.mdr_meaning.specs.declared.wire.Wire.{Wire}
-use Rattle.mdr_meaning.specs.declared.wire.Wire.TheVariants as wire
 use Rattle.mdr_meaning.specs.Sides.{Side}
 use Rattle.mdr_meaning.specs.Tree.{Tree}
 use Rattle.mdr_meaning.specs.Walk.{Accesses, Born, Reached, Walked, on_access, walk, walked}
@@ -23,9 +18,9 @@ use Rattle.mdr_model.specs.Memory.{Memory, stored}
 use Rattle.mdr_plain.specs.Laws.{GivesNoTicks}
 use Rattle.mdr_plain.specs.Running.{Before, Went, Calls, all_cells, gave_after, gave_counted, gave_given, goes}
 use Rattle.mdr_plain.specs.Services.{served}
-use Rattle.mdr_plain.specs.Storage.{accesses, births, born, deaths, died, died_at, new_of, pointer_to, remembers, with_memory, with_pointer}
+use Rattle.mdr_plain.specs.Storage.{accesses, births, deaths, remembers, with_memory}
 use Rattle.mdr_plain.specs.World.{World, Clock, Kept, advanced, left}
-use Rattle.mdr_runs.specs.Around.{Wants, came_to}
+use Rattle.mdr_runs.specs.Around.{Wants}
 use Rattle.mdr_runs.specs.Upto.{Stands, goes_answered, goes_behind, goes_by}
 use Rattle.mdr_runs.specs.Seen.{IsSeen}
 use Rattle.mdr_runs.proofs.Around.{at_most, kernel_keeps_ticks}
@@ -33,127 +28,13 @@ use Rattle.mdr_runs.proofs.Pausing.{same_gave_after}
 use Rattle.mdr_runs.proofs.Upto.{child_fewer, child_goes, goes_reached, tree_goes}
 use Rattle.mdr_runs.proofs.Walked.{left_few}
 use Rattle.mdr_whole.specs.Going.{IsCalm}
-
--- ---- clocks
-
-abbrev pub at_clock : Clock → World → World
-at_clock c w = record w { clock = c }
-
-advanced_none : (c : Clock) → advanced 0 c ≡ c
-advanced_none c =
-    let p : c.ticks + 0 ≡ c.ticks = omega arith in
-    let q : c.rest - 0 ≡ c.rest = omega arith in
-    λ i. record { ticks = p i; rest = q i; device = c.device }
-
-none_spent : (n : ℕ) (c : Clock) → c ≡ advanced (n - n) c
-none_spent n c =
-    let none : 0 ≡ n - n = omega arith in
-    sym (advanced_none c) ∙ ap (λ k. advanced k c) none
-
-one_more : (k : ℕ) (c : Clock) → advanced k (advanced 1 c) ≡ advanced (suc k) c
-one_more k c =
-    let p : c.ticks + 1 + k ≡ c.ticks + suc k = omega arith in
-    let q : c.rest - 1 - k ≡ c.rest - suc k = omega arith in
-    λ i. record { ticks = p i; rest = q i; device = (advanced (suc k) c).device }
-
--- ---- no access looks at the clock
-
-abbrev born_at : Clock → Born World → Born World
-born_at c b = record { pointers = b.pointers; memory = at_clock c b.memory }
-
-births_at : (program : Program) (c : Clock) (shapes : List Shape64) (w : World) → births program Auto shapes (at_clock c w) ≡ born_at c (births program Auto shapes w)
-unfolding births born
-births_at program c [] w = refl
-births_at program c (s ∷ shapes) w = ap (with_pointer (pointer_to (new_of Auto s w))) (births_at program c shapes (born program (new_of Auto s w) w))
-
-births_kept : (program : Program) (shapes : List Shape64) (w : World) → (births program Auto shapes w).memory.kept ≡ w.kept
-unfolding births born
-births_kept program [] w = refl
-births_kept program (s ∷ shapes) w = births_kept program shapes (born program (new_of Auto s w) w)
-
-births_clock : (program : Program) (shapes : List Shape64) (w : World) → (births program Auto shapes w).memory.clock ≡ w.clock
-unfolding births born
-births_clock program [] w = refl
-births_clock program (s ∷ shapes) w = births_clock program shapes (born program (new_of Auto s w) w)
-
-died_at_clock : (c : Clock) (p : Wire) (w : World) → died_at p (at_clock c w) ≡ at_clock c (died_at p w)
-unfolding died
-died_at_clock c (wire.Ptr p) w = refl
-died_at_clock c (wire.Int k n) w = refl
-died_at_clock c wire.Null w = refl
-died_at_clock c wire.Dead w = refl
-died_at_clock c (wire.Fn f) w = refl
-died_at_clock c (wire.Lock l) w = refl
-died_at_clock c wire.NoValue w = refl
-
-died_kept : (p : Wire) (w : World) → (died_at p w).kept ≡ w.kept
-unfolding died
-died_kept (wire.Ptr p) w = refl
-died_kept (wire.Int k n) w = refl
-died_kept wire.Null w = refl
-died_kept wire.Dead w = refl
-died_kept (wire.Fn f) w = refl
-died_kept (wire.Lock l) w = refl
-died_kept wire.NoValue w = refl
-
-died_clock : (p : Wire) (w : World) → (died_at p w).clock ≡ w.clock
-unfolding died
-died_clock (wire.Ptr p) w = refl
-died_clock (wire.Int k n) w = refl
-died_clock wire.Null w = refl
-died_clock wire.Dead w = refl
-died_clock (wire.Fn f) w = refl
-died_clock (wire.Lock l) w = refl
-died_clock wire.NoValue w = refl
-
-deaths_at : (c : Clock) (ps : List Wire) (w : World) → deaths ps (at_clock c w) ≡ at_clock c (deaths ps w)
-deaths_at c [] w = refl
-deaths_at c (p ∷ ps) w = ap (deaths ps) (died_at_clock c p w) ∙ deaths_at c ps (died_at p w)
-
-deaths_kept : (ps : List Wire) (w : World) → (deaths ps w).kept ≡ w.kept
-deaths_kept [] w = refl
-deaths_kept (p ∷ ps) w = deaths_kept ps (died_at p w) ∙ died_kept p w
-
-deaths_clock : (ps : List Wire) (w : World) → (deaths ps w).clock ≡ w.clock
-deaths_clock [] w = refl
-deaths_clock (p ∷ ps) w = deaths_clock ps (died_at p w) ∙ died_clock p w
-
--- ---- a walk leaves the clock as it is
-
-module _ (program : Program) where
-  clock_accessed : {A : Type 0} (x : Result A StopKind) (place : At) (n : ℕ) (w : World) (walks : A → Walked World)
-      → ((y : A) → (walks y).memory.clock ≡ w.clock) → (on_access x place w n walks).memory.clock ≡ w.clock
-  clock_accessed (Ok y) place n w walks each = each y
-  clock_accessed (Err kind) place n w walks each = refl
-
-  clock_stored : (x : Result Memory StopKind) (place : At) (n : ℕ) (w : World) (walks : World → Walked World)
-      → ((m : Memory) → (walks (with_memory w m)).memory.clock ≡ w.clock) → (on_access (remembers w x) place w n walks).memory.clock ≡ w.clock
-  clock_stored (Ok m) place n w walks each = each m
-  clock_stored (Err kind) place n w walks each = refl
-
-  pub walk_clock : (n : ℕ) (t : Tree) (w : World) → (walk (accesses program all_cells) n t w).memory.clock ≡ w.clock
-  unfolding walk
-  walk_clock n Tree.Idle w = refl
-  walk_clock n (Tree.Waits k) w = refl
-  walk_clock n (Tree.Done v t) w = refl
-  walk_clock n (Tree.Stop kind place) w = refl
-  walk_clock zero (Tree.Tick place d t) w = refl
-  walk_clock (suc n) (Tree.Tick place d t) w = walk_clock n t w
-  walk_clock n (Tree.Load place p k) w = clock_accessed ((accesses program all_cells).load w p) place n w _ (λ v. walk_clock n (k v) w)
-  walk_clock n (Tree.Store place p v t) w = clock_stored (stored (all_cells w) w.memory p v) place n w _ (λ m. walk_clock n t (with_memory w m))
-  walk_clock n (Tree.Read place p count k) w = clock_accessed ((accesses program all_cells).read w p count) place n w _ (λ bs. walk_clock n (k bs) w)
-  walk_clock n (Tree.Fresh place v k) w = clock_accessed ((accesses program all_cells).fresh w v) place n w _ (λ x. walk_clock n (k x) w)
-  walk_clock n (Tree.Birth place shapes k) w =
-      walk_clock n (k (births program Auto shapes w).pointers) (births program Auto shapes w).memory ∙ births_clock program shapes w
-  walk_clock n (Tree.Death place ps t) w = walk_clock n t (deaths ps w) ∙ deaths_clock ps w
-  walk_clock n (Tree.Ask asked k) w = refl
-  walk_clock n (Tree.Cross place func args depth k) w = refl
+use Rattle.mdr_whole.proofs.Clocks.{Came, Comes, Spent, advanced_none, all_fuel, at_clock, births_at, births_kept, came, deaths_at, deaths_kept, memory_is, none_spent, one_more, walk_clock}
 
 -- ---- what a tree does is its walk with so many ticks, and the ticks that it took
 
 module _ (program : Program) (before : Before) (kept : Kept) where
-  calm_next : (c : Clock) → IsCalm before kept c → IsCalm before kept (advanced 1 c)
-  calm_next c calm = λ j d w same is. calm (suc j) d w same (is ∙ one_more j c)
+  calm_next : (n : ℕ) (c : Clock) → IsCalm (suc n) before kept c → IsCalm n before kept (advanced 1 c)
+  calm_next n c calm = λ j d w less same is. calm (suc j) d w (suc-le-suc less) same (is ∙ one_more j c)
 
   abbrev follows_at : ℕ → Clock → Walked World → Went
   follows_at n c x = goes_reached program before x.reached (at_clock (advanced (n - x.left) c) x.memory)
@@ -181,10 +62,11 @@ module _ (program : Program) (before : Before) (kept : Kept) where
   one_counted zero place n c w t is enough = absurd (omega (arith, enough))
   one_counted (suc m) place n c w t is enough = refl
 
-  tick_taken : (place : At) (d n : ℕ) (c : Clock) (w : World) (t : Tree) → w.kept ≡ kept → IsCalm before kept c → suc n ≤ c.rest
+  tick_taken : (place : At) (d n : ℕ) (c : Clock) (w : World) (t : Tree) → w.kept ≡ kept → IsCalm (suc n) before kept c → suc n ≤ c.rest
       → gave_after (before d (at_clock c w)) (λ y w'. gave_counted w'.clock.rest place w' (λ w''. goes_by program before t w'')) ≡ goes_at t (advanced 1 c) w
   tick_taken place d n c w t same calm enough =
-      ap (λ x. gave_after x (λ y w'. gave_counted w'.clock.rest place w' (λ w''. goes_by program before t w''))) (calm 0 d (at_clock c w) same (sym (advanced_none c)))
+      let first : 0 < suc n = omega arith in
+      ap (λ x. gave_after x (λ y w'. gave_counted w'.clock.rest place w' (λ w''. goes_by program before t w''))) (calm 0 d (at_clock c w) first same (sym (advanced_none c)))
       ∙ one_counted c.rest place n c w t refl enough
 
   one_spent : (n : ℕ) (c : Clock) (x : Walked World) → x.left ≤ n → follows_at n (advanced 1 c) x ≡ follows_at (suc n) c x
@@ -193,7 +75,7 @@ module _ (program : Program) (before : Before) (kept : Kept) where
       let more : suc (n - x.left) ≡ suc n - x.left = omega (arith, l) in
       ap (λ y. goes_reached program before x.reached (at_clock y x.memory)) (one_more (n - x.left) c ∙ ap (λ k. advanced k c) more)
 
-  pub calm_goes : (n : ℕ) (t : Tree) (w : World) (c : Clock) → w.kept ≡ kept → IsCalm before kept c → n ≤ c.rest
+  pub calm_goes : (n : ℕ) (t : Tree) (w : World) (c : Clock) → w.kept ≡ kept → IsCalm n before kept c → n ≤ c.rest
       → goes_at t c w ≡ follows_at n c (walk (accesses program all_cells) n t w)
   unfolding goes walk
   calm_goes n Tree.Idle w c same calm enough = leaf Reached.Idles n c w
@@ -203,7 +85,7 @@ module _ (program : Program) (before : Before) (kept : Kept) where
   calm_goes zero (Tree.Tick place d t) w c same calm enough = leaf (Reached.Needs place d t) 0 c w
   calm_goes (suc n) (Tree.Tick place d t) w c same calm enough =
       tick_taken place d n c w t same calm enough
-      ∙ calm_goes n t w (advanced 1 c) same (calm_next c calm) (let h : suc n ≤ c.rest = enough in let l : n ≤ c.rest - 1 = omega (arith, h) in l)
+      ∙ calm_goes n t w (advanced 1 c) same (calm_next n c calm) (let h : suc n ≤ c.rest = enough in let l : n ≤ c.rest - 1 = omega (arith, h) in l)
       ∙ one_spent n c (walk (accesses program all_cells) n t w) (left_few (accesses program all_cells) n t w)
   calm_goes n (Tree.Load place p k) w c same calm enough = accessed ((accesses program all_cells).load w p) place n c w _ _ (λ v. calm_goes n (k v) w c same calm enough)
   calm_goes n (Tree.Store place p v t) w c same calm enough = stored_at (stored (all_cells w) w.memory p v) place n c w t (λ m. calm_goes n t (with_memory w m) c same calm enough)
@@ -221,50 +103,6 @@ module _ (program : Program) (before : Before) (kept : Kept) where
 -- ---- a machine runs through so many ticks
 
 module _ {M : Type 0} (a : Accesses M) (world_in : M → World) (program_in : M → Program) (seen : IsSeen a world_in program_in) (side : Side) (before : Before) (gives : GivesNoTicks before) where
-  -- where nothing is left when a tick is wanted
-  abbrev Spent : Event → (left : ℕ) → Type 0
-  Spent (event.TicksOut place) left = left ≡ 0
-  Spent e left = Unit {0}
-
-  record Came (h : Held) (m : M) (ticks : ℕ) (e : Event) (h' : Held) (m' : M) (rest : ℕ) : Type 0 where
-    ran : RunsTo a side h m ticks (came_to e) h' m' rest
-    wants : Wants side h' e
-    spent : Spent e rest
-
-  came : (h : Held) (m : M) (ticks : ℕ) (e : Event) (h' : Held) (m' : M) (rest : ℕ) → RanTo a side h m ticks e h' m' rest → Came h m ticks e h' m' rest
-  came h m ticks (event.Done v) h' m' rest r = record { ran = r; wants = tt; spent = tt }
-  came h m ticks (event.Cross c) h' m' rest r = record { ran = r; wants = tt; spent = tt }
-  came h m ticks (event.Service q) h' m' rest r = record { ran = r; wants = tt; spent = tt }
-  came h m ticks (event.Stop kind place) h' m' rest r = record { ran = r; wants = tt; spent = tt }
-  came h m ticks (event.TicksOut place) h' m' rest r = record { ran = r.1; wants = r.2; spent = r.0 }
-
-  -- what the walk of a tree with so many ticks comes to
-  abbrev Comes : (n fuel : ℕ) → Tree → M → Event → Held → M → (rest r : ℕ) → Type 0
-  Comes n f t m e h' m' rest r = walk a n t m ≡ came_after a side f (came_to e) h' m' rest r
-
-  all_fuel : (h : Held) (m : M) (n : ℕ) (e : Event) (h' : Held) (m' : M) (rest f : ℕ) → n ≤ f → RunsTo a side h m n (came_to e) h' m' rest
-      → Comes n f (tree side f h f) m e h' m' rest (rest + (f - n))
-  all_fuel h m n e h' m' rest f less ran =
-      let l : n ≤ f = less in
-      let none : n + 0 ≡ n = omega arith in
-      let all : n + (f - n) ≡ f = omega (arith, l) in
-      let enough : n + (f - n) ≤ f = omega (arith, l) in
-      let same : rest + 0 ≡ rest = omega arith in
-      sym (ap (λ x. walk a x (tree side f h f) m) none)
-      ∙ sym (ap (λ x. walk a (n + 0) (tree side f h x) m) all)
-      ∙ ran.by f 0 (f - n) enough
-      ∙ ap (λ x. came_after a side f (came_to e) h' m' x (rest + (f - n))) same
-
-  -- the walk's memory is the one that is left
-  memory_is : (n f : ℕ) (t : Tree) (m : M) (e : Event) (h' : Held) (m' : M) (rest r : ℕ) → Wants side h' e → Spent e rest → Comes n f t m e h' m' rest r → (walk a n t m).memory ≡ m'
-  unfolding walk
-  memory_is n f t m (event.Done v) h' m' rest r w spent is = ap (λ (x : Walked M). x.memory) is
-  memory_is n f t m (event.Cross c) h' m' rest r w spent is = ap (λ (x : Walked M). x.memory) is
-  memory_is n f t m (event.Service q) h' m' rest r w spent is = ap (λ (x : Walked M). x.memory) is
-  memory_is n f t m (event.Stop kind place) h' m' rest r w spent is = ap (λ (x : Walked M). x.memory) is
-  memory_is n f t m (event.TicksOut place) h' m' rest r w spent is =
-      ap (λ (x : Walked M). x.memory) (is ∙ ap (λ k. walk a k (tree side f h' r) m') spent ∙ ap (λ u. walk a 0 u m') (w.by f r).1)
-
   module _ (m : M) where
     abbrev p : Program
     p = program_in m
@@ -276,7 +114,7 @@ module _ {M : Type 0} (a : Accesses M) (world_in : M → World) (program_in : M 
     unfolding goes
     tick_follows place d t w = refl
 
-    event_follows : (n f r rest : ℕ) (h' : Held) (m' : M) (e : Event) (t : Tree) (c : Clock) → Wants side h' e → Spent e rest → Comes n f t m e h' m' rest r → r ≤ f → c.rest - (n - rest) ≤ r
+    event_follows : (n f r rest : ℕ) (h' : Held) (m' : M) (e : Event) (t : Tree) (c : Clock) → Wants side h' e → Spent a side e rest → Comes a side n f t m e h' m' rest r → r ≤ f → c.rest - (n - rest) ≤ r
         → reached_then n c (walk a n t m) ≡ goes_behind p side before f h' e (at_clock (advanced (n - rest) c) (world_in m'))
     unfolding walk
     event_follows n f r rest h' m' (event.Done v) t c w spent is less few = ap (reached_then n c) is
@@ -304,30 +142,30 @@ module _ {M : Type 0} (a : Accesses M) (world_in : M → World) (program_in : M 
     -- no access looks at the clock, so that running code leaves it as it is
     pub clock_stays : (h h' : Held) (m' : M) (e : Event) (n rest : ℕ) → RanTo a side h m n e h' m' rest → (world_in m').clock ≡ (world_in m).clock
     clock_stays h h' m' e n rest ran =
-        let came_so : Came h m n e h' m' rest = came h m n e h' m' rest ran in
-        let is : Comes n n (tree side n h n) m e h' m' rest (rest + (n - n)) = all_fuel h m n e h' m' rest n (le_refl n) came_so.ran in
-        let memory : (walk a n (tree side n h n) m).memory ≡ m' = memory_is n n (tree side n h n) m e h' m' rest (rest + (n - n)) came_so.wants came_so.spent is in
+        let came_so : Came a side h m n e h' m' rest = came a side h m n e h' m' rest ran in
+        let is : Comes a side n n (tree side n h n) m e h' m' rest (rest + (n - n)) = all_fuel a side h m n e h' m' rest n (le_refl n) came_so.ran in
+        let memory : (walk a n (tree side n h n) m).memory ≡ m' = memory_is a side n n (tree side n h n) m e h' m' rest (rest + (n - n)) came_so.wants came_so.spent is in
         let walks : walk (accesses p all_cells) n (tree side n h n) (world_in m) ≡ walked (walk a n (tree side n h n) m).reached (world_in (walk a n (tree side n h n) m).memory) (walk a n (tree side n h n) m).left =
         seen.walks n (tree side n h n) m in
-        sym (ap (λ x. (world_in x).clock) memory) ∙ sym (ap (λ (x : Walked World). x.memory.clock) walks) ∙ walk_clock p n (tree side n h n) (world_in m)
+        sym (ap (λ x. (world_in x).clock) memory) ∙ sym (ap (λ (x : Walked World). x.memory.clock) walks) ∙ walk_clock p all_cells n (tree side n h n) (world_in m)
 
-    pub goes_through : (h h' : Held) (m' : M) (e : Event) (place : At) (n rest fuel : ℕ) (all : Went) → IsCalm before (world_in m).kept (world_in m).clock → n ≤ (world_in m).clock.rest
+    pub goes_through : (h h' : Held) (m' : M) (e : Event) (place : At) (n rest fuel : ℕ) (all : Went) → IsCalm n before (world_in m).kept (world_in m).clock → n ≤ (world_in m).clock.rest
         → Stands p side before fuel all h (event.TicksOut place) (world_in m) → RanTo a side h m n e h' m' rest → Through fuel all h' m' e n rest
     goes_through h h' m' e place n rest fuel all calm enough s ran =
         let clock : Clock = (world_in m).clock in
         let most : clock.rest ≤ fuel = s.enough in
         let many : n ≤ clock.rest = enough in
         let inside : n ≤ fuel = omega (arith, most, many) in
-        let came_so : Came h m n e h' m' rest = came h m n e h' m' rest ran in
+        let came_so : Came a side h m n e h' m' rest = came a side h m n e h' m' rest ran in
         let fewer : rest ≤ n = came_so.ran.fewer in
-        let is : Comes n fuel (tree side fuel h fuel) m e h' m' rest (rest + (fuel - n)) = all_fuel h m n e h' m' rest fuel inside came_so.ran in
+        let is : Comes a side n fuel (tree side fuel h fuel) m e h' m' rest (rest + (fuel - n)) = all_fuel a side h m n e h' m' rest fuel inside came_so.ran in
         let less : rest + (fuel - n) ≤ fuel = omega (arith, fewer, inside) in
         let few : clock.rest - (n - rest) ≤ rest + (fuel - n) = omega (arith, fewer, inside, most, many) in
-        let memory : (walk a n (tree side fuel h fuel) m).memory ≡ m' = memory_is n fuel (tree side fuel h fuel) m e h' m' rest (rest + (fuel - n)) came_so.wants came_so.spent is in
+        let memory : (walk a n (tree side fuel h fuel) m).memory ≡ m' = memory_is a side n fuel (tree side fuel h fuel) m e h' m' rest (rest + (fuel - n)) came_so.wants came_so.spent is in
         let walks : walk (accesses p all_cells) n (tree side fuel h fuel) (world_in m) ≡ walked (walk a n (tree side fuel h fuel) m).reached (world_in (walk a n (tree side fuel h fuel) m).memory) (walk a n (tree side fuel h fuel) m).left =
         seen.walks n (tree side fuel h fuel) m in
         let stays : (world_in m').clock ≡ clock =
-        sym (ap (λ x. (world_in x).clock) memory) ∙ sym (ap (λ (x : Walked World). x.memory.clock) walks) ∙ walk_clock p n (tree side fuel h fuel) (world_in m) in
+        sym (ap (λ x. (world_in x).clock) memory) ∙ sym (ap (λ (x : Walked World). x.memory.clock) walks) ∙ walk_clock p all_cells n (tree side fuel h fuel) (world_in m) in
         let does : goes_behind p side before fuel h' e (at_clock (advanced (n - rest) clock) (world_in m')) ≡ all =
         sym (event_follows n fuel (rest + (fuel - n)) rest h' m' e (tree side fuel h fuel) clock came_so.wants came_so.spent is less few)
         ∙ sym (ap (follows_at p before (world_in m).kept n clock) walks)

@@ -1,4 +1,5 @@
 mod HeldFuel
+pub mod Clocks
 mod Calm
 mod Turns
 mod Scripts

@@ -48,7 +48,7 @@ use Rattle.mdr_runs.proofs.Many.{as_many}
 use Rattle.mdr_runs.proofs.Pausing.{goes_finishes}
 use Rattle.mdr_runs.proofs.Upto.{budget_ends, goes_keep_ticks, runs_upto, service_ends, started_goes, stop_ends, ticks_upto, try_ends, value_ends}
 use Rattle.mdr_runs.proofs.Tries.{tries_give_none}
-use Rattle.mdr_world.specs.Driven.{Driven, NoneIsDue, Ticks, driven_accesses, driver}
+use Rattle.mdr_world.specs.Driven.{Driven, NoneIsDueIn, Ticks, driven_accesses, driver}
 use Rattle.mdr_world.proofs.WalkLaws.{drivers_walk}
 use Rattle.mdr_services.specs.declared.answer.Served.{Served}
 use Rattle.mdr_services.specs.declared.answer.Served.TheVariants as served_is
@@ -67,7 +67,8 @@ use Rattle.mdr_whole.specs.declared.paused.Went.{Went as MachineFar}
 use Rattle.mdr_whole.specs.declared.paused.Went.TheVariants as far
 use Rattle.mdr_whole.specs.Going.{Began, CallsAt, Counted, Follows, GoesOn, GoesOnWith, IsCalm, IsStarted, NextAt, Passed, RanThrough, StandsAt, half_of, machine_goes, side_of, tried_in}
 use Rattle.mdr_whole.specs.Pausing.{IsWaiting, WentOn, awaited, calls_elsewhere, went_in}
-use Rattle.mdr_whole.proofs.Calm.{at_clock, clock_stays, goes_through}
+use Rattle.mdr_whole.proofs.Calm.{clock_stays, goes_through}
+use Rattle.mdr_whole.proofs.Clocks.{at_clock}
 
 -- ---- a driver that runs is seen as its world
 
@@ -102,22 +103,21 @@ module _ (program : Program) (side : Side) (m m' : Machine) (d d' : Driven) (e :
       let x = ticks_upto program before gives driven_accesses world_in program_in (seen_by program) side (held_of program m) (held_of program m') at t.earlier w d d' e rest fuel n.left all same t.wanted t.tried n.one n.counted ran in
       record { stands = x.stands; same = x.same; left = ran_leaves driven_accesses side (held_of program m) (held_of program m') d d' 1 e rest ready ran }
 
--- ---- all ticks that are left
+-- ---- so many ticks at once
 
--- where none is due, none is taken before any tick
-pub calm_while : (tries : Bool) (program : Program) (half : Bool) (side : Side) (w : World) → NoneIsDue w → IsCalm (tried_by tries program half side) w.kept w.clock
+-- where none is due, none is taken before any of them
+pub calm_while : (tries : Bool) (program : Program) (half : Bool) (side : Side) (w : World) (ticks : ℕ) → NoneIsDueIn ticks w → IsCalm ticks (tried_by tries program half side) w.kept w.clock
 unfolding interrupts
-calm_while true program half side w none = λ j d w' same is. ap (λ o. handled (code_by program half side) d o w') (none j w' same is)
-calm_while false program half side w none = λ j d w' same is. refl
+calm_while true program half side w ticks none = λ j d w' less same is. ap (λ o. handled (code_by program half side) d o w') (none j w' less same is)
+calm_while false program half side w ticks none = λ j d w' less same is. refl
 
 spent_is : (ticks used : ℕ) → used ≤ ticks → ticks - (ticks - used) ≡ used
 spent_is ticks used less = let l : used ≤ ticks = less in omega (arith, l)
 
-pub ran_through : (program : Program) (side : Side) (m m' : Machine) (d d1 d2 : Driven) (e : Event) (ticks used : ℕ) → d.program ≡ program → IsReady (held_of program m) → ticks ≡ d.world.clock.rest → used ≤ ticks
+pub ran_through : (program : Program) (side : Side) (m m' : Machine) (d d1 d2 : Driven) (e : Event) (ticks used : ℕ) → d.program ≡ program → IsReady (held_of program m) → ticks ≤ d.world.clock.rest → used ≤ ticks
     → RanTo driven_accesses side (held_of program m) d ticks e (held_of program m') d1 (ticks - used)
-    → d2 ≡ driver d1.program (record d1.world { clock = advanced used d1.world.clock }) → RanThrough program side m d m' e d2
-ran_through program side m m' d d1 d2 e ticks used same ready all_ticks less ran counts = λ before gives fuel all at calm s.
-    let enough : ticks ≤ d.world.clock.rest = (let h : ticks ≡ d.world.clock.rest = all_ticks in omega (arith, h)) in
+    → d2 ≡ driver d1.program (record d1.world { clock = advanced used d1.world.clock }) → RanThrough program side m d ticks m' e d2
+ran_through program side m m' d d1 d2 e ticks used same ready enough less ran counts = λ before gives fuel all at calm s.
     let before_it : Stands d.program side before fuel all (held_of program m) (event.TicksOut at) d.world = subst (λ p. Stands p side before fuel all (held_of program m) (event.TicksOut at) d.world) (sym same) s.stands in
     let t = goes_through driven_accesses world_in program_in seen side before gives d (held_of program m) (held_of program m') d1 e at ticks (ticks - used) fuel all calm enough before_it ran in
     let spent : Stands d.program side before fuel all (held_of program m') e (at_clock (advanced used d1.world.clock) d1.world) =
@@ -131,13 +131,13 @@ ran_through program side m m' d d1 d2 e ticks used same ready all_ticks less ran
     }
 
 -- and no more ticks than the budget left
-pub none_beyond : (program : Program) (side : Side) (m m' : Machine) (d d1 : Driven) (e : Event) (ticks used : ℕ) → ticks ≡ d.world.clock.rest → used ≤ ticks
+pub none_beyond : (program : Program) (side : Side) (m m' : Machine) (d d1 : Driven) (e : Event) (ticks used : ℕ) → ticks ≤ d.world.clock.rest → used ≤ ticks
     → RanTo driven_accesses side (held_of program m) d ticks e (held_of program m') d1 (ticks - used) → used ≤ d1.world.clock.rest
-none_beyond program side m m' d d1 e ticks used all_ticks less ran =
+none_beyond program side m m' d d1 e ticks used enough less ran =
     let stays : d1.world.clock ≡ d.world.clock =
     clock_stays driven_accesses world_in program_in seen side (tried_by false program true side) (tries_give_none false program true side) d (held_of program m) (held_of program m') d1 e ticks (ticks - used) ran in
     let same : d1.world.clock.rest ≡ d.world.clock.rest = ap (λ (c : Clock). c.rest) stays in
-    let all : ticks ≡ d.world.clock.rest = all_ticks in
+    let all : ticks ≤ d.world.clock.rest = enough in
     let few : used ≤ ticks = less in
     omega (arith, same, all, few)
 

@@ -1,6 +1,6 @@
 -- protocol
 -- A machine that runs a driver's code up to its next event.
-use Rattle.std.specs.Prelude.{◌≡◌, ◌+◌, ◌-◌, ◌≤◌, ℕ, suc, List, Bool, true, false, [], ◌∷◌}
+use Rattle.std.specs.Prelude.{◌≡◌, ◌+◌, ◌-◌, ◌<◌, ◌≤◌, ℕ, suc, List, Bool, true, false, [], ◌∷◌}
 use Rattle.mdr_core.specs.declared.place.At.{At}
 use Rattle.mdr_core.specs.declared.program.Program.{Program}
 use Rattle.mdr_events.specs.declared.event.Crossing.{Crossing}
@@ -122,14 +122,14 @@ Passed program side machine d machine' e d' =
     (before : Before) → GivesNoTicks before → (fuel : ℕ) (all : Went) (at : At) (w : World)
     → Tried program side before fuel all machine at w → Counted w d.world → StandsAt program side before fuel all machine' e d'
 
--- from a clock on nothing is done before ticks, whatever memory is then
-abbrev pub IsCalm : Before → Kept → Clock → Type 0
-IsCalm before kept c = (j d : ℕ) (w : World) → w.kept ≡ kept → w.clock ≡ advanced j c → before d w ≡ done w
+-- from a clock on nothing is done before the next so many ticks, whatever memory is then
+abbrev pub IsCalm : (ticks : ℕ) → Before → Kept → Clock → Type 0
+IsCalm ticks before kept c = (j d : ℕ) (w : World) → j < ticks → w.kept ≡ kept → w.clock ≡ advanced j c → before d w ≡ done w
 
--- it ran with all ticks that were left, nothing was done before them, and those that it took were counted
-abbrev pub RanThrough : Program → Side → Machine → Driven → Machine → Event → Driven → Type 0
-RanThrough program side machine d machine' e d' =
-    (before : Before) → GivesNoTicks before → (fuel : ℕ) (all : Went) (at : At) → IsCalm before d.world.kept d.world.clock
+-- it ran with so many ticks, nothing was done before them, and those that it took were counted
+abbrev pub RanThrough : Program → Side → Machine → Driven → (ticks : ℕ) → Machine → Event → Driven → Type 0
+RanThrough program side machine d ticks machine' e d' =
+    (before : Before) → GivesNoTicks before → (fuel : ℕ) (all : Went) (at : At) → IsCalm ticks before d.world.kept d.world.clock
     → StandsAt program side before fuel all machine (event.TicksOut at) d → StandsAt program side before fuel all machine' e d'
 
 -- behind what was tried before a tick, the next event or the end

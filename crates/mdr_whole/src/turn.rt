@@ -1,14 +1,13 @@
 // A machine runs from event to event.
 
-ghost use Rattle.std.specs.Prelude.{◌≡◌, ◌≤◌, IfOk, OnOk, IsTrue};
+ghost use Rattle.std.specs.Prelude.{◌≡◌, ◌≤◌, IfOk, OnOk};
 ghost use Rattle.mdr_core.specs.Sound.{IsSound};
 ghost use Rattle.mdr_events.specs.declared.event.Event.TheVariants as event;
 ghost use Rattle.mdr_events.specs.Going.{LeavesAt};
 ghost use Rattle.mdr_events.specs.Ready.{IsReady};
 ghost use Rattle.mdr_events.specs.Values.{wires_of};
 ghost use Rattle.mdr_exec.specs.Holding.{Takes, held_of};
-ghost use Rattle.mdr_world.specs.Driven.{NoneIsDue};
-ghost use Rattle.mdr_whole.specs.Going.{Began, Follows, GoesOnAnyhow, GoesOnIn, GoesOnWith, Passed, RanIn, RanThrough, ReachedIn, WaitsAt, side_of};
+ghost use Rattle.mdr_whole.specs.Going.{Follows, GoesOnAnyhow, GoesOnIn, GoesOnWith, RanIn, RanThrough, ReachedIn, WaitsAt, side_of};
 
 use crate::before::Before;
 use crate::code::Code;
@@ -21,7 +20,8 @@ use mdr_services::{Served, serve};
 use mdr_world::World;
 use std::alloc::Global;
 
-/// Runs a machine with so many ticks, on the code that runs.
+/// Runs a machine with so many ticks, on the code that runs: with none up to its first event or the first tick that it
+/// needs.
 #[tactic(auto, unfolding(mdr_exec::specs::Holding::held_of))]
 fn go(
     machine: &mut Machine,
@@ -40,38 +40,6 @@ fn go(
     Ok(event)
 }
 
-/// Runs a machine up to its first event or the first tick that it needs.
-fn begin(
-    machine: &mut Machine,
-    alloc: Global,
-    code: Code,
-    world: &mut World,
-) -> Result<Event, OutOfMemory>
-    requires sound { IsSound code.program.now }
-    requires same { world.old.program ≡ code.program.now }
-    requires ready { IsReady (held_of code.program.now machine.old) }
-    ensures { IfOk result (λ e. Began code.entry.program.now (side_of code.entry) machine.old world.old machine.new e world.new) }
-{
-    let event = go(machine, alloc, code, world, 0)?;
-    Ok(event)
-}
-
-/// Runs a machine with the tick that was counted for it.
-fn go_on(
-    machine: &mut Machine,
-    alloc: Global,
-    code: Code,
-    world: &mut World,
-) -> Result<Event, OutOfMemory>
-    requires sound { IsSound code.program.now }
-    requires same { world.old.program ≡ code.program.now }
-    requires ready { IsReady (held_of code.program.now machine.old) }
-    ensures { IfOk result (λ e. Passed code.entry.program.now (side_of code.entry) machine.old world.old machine.new e world.new) }
-{
-    let event = go(machine, alloc, code, world, 1)?;
-    Ok(event)
-}
-
 /// Counts the tick that is wanted, if one is left, and goes on.
 fn pass(
     machine: &mut Machine,
@@ -86,41 +54,33 @@ fn pass(
     ensures { IfOk result (λ n. Follows code.entry.program.now (side_of code.entry) at machine.old world.old machine.new n world.new) }
 {
     if world.tick() {
-        let event = go_on(machine, alloc, code, world)?;
+        let event = go(machine, alloc, code, world, 1)?;
         return Ok(Next::Came(event));
     }
     Ok(Next::Gave(Gave::Stopped(StopKind::Ticks, Some(at))))
 }
 
-/// Runs a machine with all ticks that are left, where nothing is done before them, and counts those that it took.
+/// Runs a machine with so many ticks, where nothing is done before them, and counts those that it took.
 fn run_through(
     machine: &mut Machine,
     alloc: Global,
     code: Code,
     world: &mut World,
+    ticks: u64,
 ) -> Result<Event, OutOfMemory>
     requires sound { IsSound code.program.now }
     requires same { world.old.program ≡ code.program.now }
     requires ready { IsReady (held_of code.program.now machine.old) }
-    ensures { IfOk result (λ e. RanThrough code.entry.program.now (side_of code.entry) machine.old world.old machine.new e world.new) }
+    requires few { ticks ≤ world.old.world.clock.rest }
+    ensures { IfOk result (λ e. RanThrough code.entry.program.now (side_of code.entry) machine.old world.old ticks machine.new e world.new) }
 {
-    let ticks = world.rest();
     let event = go(machine, alloc, code, world, ticks)?;
     world.count(machine.used());
     Ok(event)
 }
 
-/// Whether ticks are left, and no interrupt is taken before any of them.
-fn is_calm(world: &World) -> bool
-    ensures { IsTrue result → NoneIsDue world.now.world }
-{
-    if world.rest() == 0 {
-        return false;
-    }
-    world.is_calm()
-}
-
-/// A tick is wanted: what stands before it is tried first.
+/// A tick is wanted. The machine runs with it, and with all behind it before which no interrupt is due, or what stands
+/// before it is tried first.
 fn tick<B: Before>(
     machine: &mut Machine,
     alloc: Global,
@@ -133,8 +93,9 @@ fn tick<B: Before>(
     requires ready { IsReady (held_of code.program.now machine.old) }
     ensures { IfOk result (λ n. GoesOnIn B.tries code.entry machine.old (event.TicksOut at) world.old machine.new n world.new) }
 {
-    if is_calm(world) {
-        let event = run_through(machine, alloc, code, world)?;
+    let calm = world.calm_ticks(world.rest());
+    if calm > 0 {
+        let event = run_through(machine, alloc, code, world, calm)?;
         return Ok(Next::Came(event));
     }
     let depth = machine.active();
@@ -159,7 +120,7 @@ fn resume(
     ensures { IfOk result (λ e. GoesOnWith code.entry.program.now (side_of code.entry) (wires_of results.now) machine.old world.old machine.new e world.new) }
 {
     machine.resume(results);
-    let event = begin(machine, alloc, code, world)?;
+    let event = go(machine, alloc, code, world, 0)?;
     Ok(event)
 }
 
@@ -235,7 +196,7 @@ pub(crate) fn run<B: Before>(
     ensures reached { IfOk result (λ r. ReachedIn B.tries code.entry machine.old world.old.world r machine.new world.new.world) }
     ensures waits { IfOk result (λ r. WaitsAt code.entry.program.now r machine.new) }
 {
-    let mut event = begin(machine, alloc, code, world)?;
+    let mut event = go(machine, alloc, code, world, 0)?;
     let mut turns: u64 = 0;
     while turns < u64::MAX {
         turns += 1;

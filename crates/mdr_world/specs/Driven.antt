@@ -1,6 +1,6 @@
 -- protocol
 -- A driver that runs: what its code does to it.
-use Rattle.std.specs.Prelude.{◌≡◌, ℕ, suc, ◌+◌, Bool, true, false, ◌||◌, List, [], ◌∷◌, Option, Some, None, Result, Ok, Err}
+use Rattle.std.specs.Prelude.{◌≡◌, ℕ, suc, ◌+◌, ◌<◌, Bool, true, false, not, List, [], ◌∷◌, Option, Some, None, Result, Ok, Err}
 use Rattle.mdr_core.specs.declared.program.Program.{Program}
 use Rattle.mdr_core.specs.declared.stop.StopKind.{StopKind}
 use Rattle.mdr_meaning.specs.Tree.{Tree}
@@ -60,14 +60,14 @@ abbrev pub Ticks : Bool → Driven → Driven → Type 0
 Ticks false old new = (old.world.clock.rest ≡ 0) × (new ≡ old)
 Ticks true old new = (n : ℕ) × (old.world.clock.rest ≡ suc n) × (new ≡ driver old.program (record old.world { clock = advanced 1 old.world.clock }))
 
--- no interrupt is due now or at a later tick, where ticks pass and code changes memory alone
-abbrev pub NoneIsDue : World → Type 0
-NoneIsDue w = (n : ℕ) (now : World) → now.kept ≡ w.kept → now.clock ≡ advanced n w.clock → due now ≡ None
+-- no interrupt is due before the next so many ticks, where ticks pass and code changes memory alone
+abbrev pub NoneIsDueIn : (ticks : ℕ) → World → Type 0
+NoneIsDueIn ticks w = (n : ℕ) (now : World) → n < ticks → now.kept ≡ w.kept → now.clock ≡ advanced n w.clock → due now ≡ None
 
--- none comes where no function handles interrupts, where the one that does runs, or where the line stays low
-abbrev pub none_comes : (handler : Option ℕ) (in_handler low : Bool) → Bool
-none_comes None in_handler low = true
-none_comes (Some f) in_handler low = in_handler || low
+-- whether a raised line is heard: a function handles interrupts, and doesn't run
+abbrev pub is_heard : (handler : Option ℕ) (in_handler : Bool) → Bool
+is_heard None in_handler = false
+is_heard (Some f) in_handler = not in_handler
 
 -- ---- a driver's walk is its world's
 

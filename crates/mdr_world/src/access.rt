@@ -5,11 +5,11 @@ ghost use Rattle.mdr_core.specs.declared.value.Value.TheVariants as value;
 ghost use Rattle.mdr_events.specs.Integers.{IsFirst, integer_wire};
 ghost use Rattle.mdr_events.specs.Outcomes.{when_made, wired};
 ghost use Rattle.mdr_mem.specs.Contents.{cell_in, is_handle};
-ghost use Rattle.mdr_meaning.specs.Values.{natural_of, wire_of, wire_view};
+ghost use Rattle.mdr_meaning.specs.Values.{wire_of, wire_view};
 ghost use Rattle.mdr_model.specs.Memory.{cell_at, cell_of, everywhere, loaded, loaded_cell, loaded_value, normal, put, reached_by, stored};
 ghost use Rattle.mdr_model.specs.Sets.{cells_from};
 ghost use Rattle.mdr_plain.specs.Scripts.{poked_memory, poked_value};
-ghost use Rattle.mdr_plain.specs.Storage.{byte_at, bytes_from, cells_read, fresh, number_in, read, saturated_u8};
+ghost use Rattle.mdr_plain.specs.Storage.{byte_at, bytes_from, cells_read, fresh, read};
 ghost use Rattle.mdr_world.specs.Reaching.{with_memory};
 ghost use Rattle.mdr_meaning.specs.declared.wire.Wire.TheVariants as wire;
 ghost use Rattle.mdr_meaning.specs.declared.wire.WireView.{WireView};
@@ -19,6 +19,7 @@ use crate::reach::{Target, reached};
 use mdr_core::{Block, Items, StopKind, Value, View};
 use mdr_events::Integer;
 use mdr_mem::Cells;
+use mdr_numbers::byte_in;
 use mdr_region::RegionBlocks;
 use std::alloc::{AllocError, Global};
 
@@ -267,29 +268,6 @@ pub fn poke(blocks: &mut RegionBlocks, serial: u64, index: u32, n: i128)
 }
 
 // ---- bytes
-
-/// A number as a byte: the greatest one where it is greater.
-fn byte_of(n: i128) -> u8
-    ensures { result ≡ saturated_u8 (natural_of n) }
-{
-    if n < 0 {
-        return 0;
-    }
-    if n > 255 {
-        return 255;
-    }
-    n as u8
-}
-
-fn byte_in(held: Option<Value>) -> u8
-    ensures { result ≡ number_in (option_map wire_of held) }
-{
-    match held {
-        Some(Value::Int(_, n)) => byte_of(n),
-        Some(_) => 0,
-        None => 0,
-    }
-}
 
 fn bytes_in(
     blocks: &RegionBlocks,

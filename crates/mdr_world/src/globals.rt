@@ -4,7 +4,6 @@ ghost use Rattle.std.specs.Prelude.{◌≡◌, ◌≤◌, IfOk, length, map};
 ghost use Rattle.mdr_core.specs.Sound.{IsSound};
 ghost use Rattle.mdr_mem.specs.Contents.{births_in, wire_in};
 ghost use Rattle.mdr_meaning.specs.Bodies.{known_of};
-ghost use Rattle.mdr_meaning.specs.Numbers.{is_same_type, number_in};
 ghost use Rattle.mdr_meaning.specs.Values.{wire_of};
 ghost use Rattle.mdr_plain.specs.Storage.{birth_of, first_memory, global_block, global_blocks};
 ghost use Rattle.mdr_world.specs.Stored.{AreSoundGlobals, AreThere, IsCounted, IsThere};
@@ -12,38 +11,11 @@ ghost use Rattle.std.specs.Prelude.{◌++◌, ◌∷◌, [], OnOk};
 
 use crate::handles::value_now;
 use crate::storage::Storage;
-use mdr_core::{GlobalDef, Items, OutOfMemory, Program, Shape, Ty, Value, same_type};
+use mdr_core::{GlobalDef, Items, OutOfMemory, Program, Shape, Value};
 use mdr_model::BirthKind;
+use mdr_numbers::number_of;
 use mdr_region::RegionBlocks;
 use std::alloc::Global;
-
-fn is_same_type(a: &Ty, b: &Ty) -> bool
-    ensures { result ≡ is_same_type a.now b.now }
-{
-    same_type(a, b)
-}
-
-/// The first place of a type in a list; behind its end where it isn't there.
-#[tactic(auto, unfolding(mdr_meaning::specs::Numbers::number_in))]
-fn number_in(types: &[Ty], ty: &Ty) -> usize
-    ensures number { result ≡ number_in types.now ty.now }
-    ensures within { result ≤ length types.now }
-{
-    for i in 0..types.len() {
-        if is_same_type(&types[i], ty) {
-            return i;
-        }
-    }
-    types.len()
-}
-
-/// The number of a type in a table of few; behind its end where it isn't there.
-fn number_of(types: &[Ty], ty: &Ty) -> u32
-    requires { length types.now ≤ 16777216 }
-    ensures { result ≡ number_in types.now ty.now }
-{
-    number_in(types, ty) as u32
-}
 
 /// A value, where it points to a block that was born before with the slot of that.
 fn placed(blocks: &RegionBlocks, v: Value) -> Value

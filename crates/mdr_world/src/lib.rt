@@ -7,7 +7,6 @@ mod births;
 mod globals;
 mod handles;
 mod laws;
-mod lives;
 mod locks;
 mod memory;
 mod reach;

@@ -7,9 +7,9 @@ ghost use Rattle.mdr_model.specs.Memory.{killed};
 ghost use Rattle.mdr_region.specs.Layout.{laid};
 ghost use Rattle.mdr_world.specs.Stored.{AreMarked, IsCounted};
 
-use crate::lives::Lives;
 use mdr_core::{Block, Limit, OutOfMemory, Shape, Value, within};
-use mdr_mem::Cells;
+use mdr_history::History;
+use mdr_mem::{Cells, Life};
 use mdr_model::BirthKind;
 use mdr_region::RegionBlocks;
 use std::alloc::Global;
@@ -18,7 +18,7 @@ use std::alloc::Global;
 #[derive(Drop)]
 pub struct Storage {
     pub blocks: RegionBlocks,
-    pub lives: Lives,
+    pub lives: History<Life>,
 }
 
 impl Storage {
@@ -29,7 +29,7 @@ impl Storage {
     {
         Storage {
             blocks: RegionBlocks::new(alloc),
-            lives: Lives::new(),
+            lives: History::new(),
         }
     }
 
@@ -65,18 +65,18 @@ impl Storage {
     }
 }
 
-fn with_birth(lives: &Lives, cells: u32) -> Lives
+fn with_birth(lives: &History<Life>, cells: u32) -> History<Life>
     ensures value { result ≡ lives.now ++ life.Birth cells ∷ [] }
     ensures counted { births_in result ≡ births_in lives.now + 1 }
 {
-    lives.and_birth(cells)
+    lives.and(&Life::Birth { cells })
 }
 
-fn with_death(lives: &Lives, serial: u64) -> Lives
+fn with_death(lives: &History<Life>, serial: u64) -> History<Life>
     ensures value { result ≡ lives.now ++ life.Death serial ∷ [] }
     ensures counted { births_in result ≡ births_in lives.now }
 {
-    lives.and_death(serial)
+    lives.and(&Life::Death { serial })
 }
 
 fn end_in(blocks: &mut RegionBlocks, serial: u64)

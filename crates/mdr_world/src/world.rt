@@ -1,6 +1,6 @@
 // The state of a run.
 
-ghost use Rattle.std.specs.Prelude.{◌≡◌, ◌+◌, ◌≤◌, ◌==◌, [], ℕ, false, true, IfOk, IsTrue, OnOk, OnErr, length};
+ghost use Rattle.std.specs.Prelude.{◌≡◌, ◌+◌, ◌≤◌, ◌==◌, [], ℕ, false, true, IfOk, OnOk, OnErr, length};
 ghost use Rattle.std.specs.List.{list_any};
 ghost use Rattle.mdr_core.specs.Sound.{IsSound};
 ghost use Rattle.mdr_device.specs.Machines.{Machine, read, written};
@@ -21,7 +21,7 @@ ghost use Rattle.mdr_plain.specs.Services.{asked_once_more, fails_now, with_devi
 ghost use Rattle.mdr_plain.specs.Storage.{births, born, deaths, died, died_at, new_of, pointer_to, remembers};
 ghost use Rattle.mdr_plain.specs.World.{advanced, noted};
 ghost use Rattle.mdr_region.specs.Layout.{places_of};
-ghost use Rattle.mdr_world.specs.Driven.{NoneIsDue, Ticks, counted_call, driven_accesses, driver, driver_if, none_comes, open_views};
+ghost use Rattle.mdr_world.specs.Driven.{NoneIsDueIn, Ticks, counted_call, driven_accesses, driver, driver_if, is_heard, open_views};
 
 use crate::births::{shape_of, zeros};
 use crate::globals::first_storage;
@@ -226,12 +226,15 @@ impl<'a> World<'a> {
         }
     }
 
-    /// Whether no interrupt is due now or at a later tick, where ticks pass and code changes memory alone.
-    pub fn is_calm(&self) -> bool
-        ensures { IsTrue result → NoneIsDue self.now.world }
+    /// How many of so many ticks find no interrupt due before them, at least, where ticks pass and code changes memory alone.
+    pub fn calm_ticks(&self, most: u64) -> u64
+        ensures few { result ≤ most }
+        ensures calm { NoneIsDueIn result self.now.world }
     {
-        let low = self.device.stays_low();
-        none_comes(self.handler, self.in_handler, low)
+        if is_heard(self.handler, self.in_handler) {
+            return self.device.low_ticks(most);
+        }
+        most
     }
 
     /// Whether what runs now may not sleep: a handler, or code with a lock that spins. The time is that of a look at
@@ -516,12 +519,13 @@ impl<'a> World<'a> {
     }
 }
 
-fn none_comes(handler: Option<u32>, in_handler: bool, low: bool) -> bool
-    ensures { result ≡ none_comes handler in_handler low }
+/// Whether a raised line is heard: a function handles interrupts, and doesn't run.
+fn is_heard(handler: Option<u32>, in_handler: bool) -> bool
+    ensures { result ≡ is_heard handler in_handler }
 {
     match handler {
-        Some(_) => in_handler || low,
-        None => true,
+        Some(_) => !in_handler,
+        None => false,
     }
 }
 

@@ -11,13 +11,14 @@ use Rattle.mdr_watch.specs.Going.{held_in, program_in}
 use Rattle.mdr_watch.specs.Watching.{driver_in}
 use Rattle.mdr_watch.proofs.Below as below
 use Rattle.mdr_watch.proofs.Nested.{back_called, elsewhere_runs, machine_runs, no_room, ran_within, set_fails, set_taken, stops_atomic, taken_from, within_left}
-use Rattle.mdr_watch.proofs.Turns.{crossed_on, way_begins, way_gives, way_goes, way_keeps}
+use Rattle.mdr_watch.proofs.Turns.{began, crossed_on, way_begins, way_gives, way_goes, way_keeps}
 use Rattle.mdr_watch.proofs.+upcalls.Goals as goal
 
 -- ---- a machine
 
 pub turn::run-loop-turns-init : goal.turn::run-loop-turns-init
-turn::run-loop-turns-init t c = way_begins c.args.activation c.args.machine.now c.args.guarded.now c.begin.new.machine c.in_ok-event.event c.begin.new.guarded c.in_ok-event.ensures
+turn::run-loop-turns-init t c = way_begins c.args.activation c.args.machine.now c.args.guarded.now c.go.new.machine c.in_ok-event.event c.go.new.guarded
+    (began c.args.activation c.args.machine.now c.go.new.machine c.args.guarded.now c.go.new.guarded c.in_ok-event.event _ c.requires.same c.requires.ready c.in_ok-event.ensures.ran)
 
 pub turn::run-loop-turns-preserved : goal.turn::run-loop-turns-preserved
 turn::run-loop-turns-preserved t c =

@@ -1,10 +1,11 @@
 use Rattle.mdr_whole.specs.Going.{half_of, side_of}
 use Rattle.std.proofs.Common.{le_refl}
-use Rattle.mdr_whole.proofs.Turns.{way_begins, way_called, way_calls, way_gives, way_goes, way_keeps, way_spends}
+use Rattle.mdr_whole.proofs.Turns.{began, way_begins, way_called, way_calls, way_gives, way_goes, way_keeps, way_spends}
 use Rattle.mdr_whole.proofs.turn.run.Goals as goal
 
 pub loop-turns-init : goal.loop-turns-init
-loop-turns-init g c = way_begins g.B.Before.tries c.args.code.program.now (half_of c.args.code) (side_of c.args.code) c.args.machine.now c.args.world.now c.begin.new.machine c.in_ok-event.event c.begin.new.world c.in_ok-event.ensures
+loop-turns-init g c = way_begins g.B.Before.tries c.args.code.program.now (half_of c.args.code) (side_of c.args.code) c.args.machine.now c.args.world.now c.go.new.machine c.in_ok-event.event c.go.new.world
+    (began c.args.code.program.now (side_of c.args.code) c.args.machine.now c.go.new.machine c.args.world.now c.go.new.world c.in_ok-event.event _ c.requires.same c.requires.ready c.in_ok-event.ensures.ran)
 
 pub follow-requires-clause-same : goal.follow-requires-clause-same
 follow-requires-clause-same g c = (c.loop-turns.invariant.at c.args.world.now.world.clock.rest (le_refl c.args.world.now.world.clock.rest)).same

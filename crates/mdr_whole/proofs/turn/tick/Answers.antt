@@ -5,10 +5,10 @@ use Rattle.mdr_runs.proofs.Tries.{tries_give_none}
 use Rattle.mdr_whole.proofs.Turns.{calm_while, tried_on, tried_out}
 use Rattle.mdr_whole.proofs.turn.tick.Goals as goal
 
-pub returns-then-is_calm : goal.returns-then-is_calm
-returns-then-is_calm g c = λ fuel all s.
+pub returns-then-calm-gt0 : goal.returns-then-calm-gt0
+returns-then-calm-gt0 g c = λ fuel all s.
     c.in_ok-event.ensures (tried_by g.B.Before.tries c.args.code.program.now (half_of c.args.code) (side_of c.args.code)) (tries_give_none g.B.Before.tries c.args.code.program.now (half_of c.args.code) (side_of c.args.code)) fuel all c.args.at
-    (calm_while g.B.Before.tries c.args.code.program.now (half_of c.args.code) (side_of c.args.code) c.args.world.now.world (c.is_calm.ensures c.if-is_calm.true)) s
+    (calm_while g.B.Before.tries c.args.code.program.now (half_of c.args.code) (side_of c.args.code) c.args.world.now.world c.calm_ticks-calm.result c.calm_ticks-calm.ensures.calm) s
 
 pub returns-in-Done : goal.returns-in-Done
 returns-in-Done g c =

@@ -1,6 +1,6 @@
 use Rattle.std.proofs.Common.{◌≡◌}
 use Rattle.mdr_device.specs.Machines.{advanced}
-use Rattle.mdr_device.proofs.device.Device.tick_each.Given as goal
+use Rattle.mdr_device.proofs.device.Device.advance.Given as goal
 
 abbrev pub invariant-loop-left : goal.invariant-loop-left
 invariant-loop-left l = advanced l.left l.self ≡ advanced l.ticks l.fn.self
