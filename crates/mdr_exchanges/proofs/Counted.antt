@@ -7,6 +7,7 @@ use Rattle.mdr_meaning.specs.Tree.{Asked}
 use Rattle.mdr_model.specs.declared.command.Command.{Command}
 use Rattle.mdr_model.specs.declared.message.Fault.{Fault}
 use Rattle.mdr_model.specs.declared.outcome.End.TheVariants as ends
+use Rattle.mdr_model.specs.declared.reply.Down.{Down as Downcall}
 use Rattle.mdr_model.specs.declared.reply.Reply.{Reply}
 use Rattle.mdr_model.specs.declared.reply.Reply.TheVariants as replies
 use Rattle.mdr_model.specs.Bytes.{readings}
@@ -20,8 +21,9 @@ use Rattle.mdr_plain.specs.Scripts.{Beginning, Did, Enters, Opens, begin, return
 use Rattle.mdr_plain.specs.World.{World, Ran, Ended, Stopped, Work, after}
 use Rattle.mdr_bound.specs.declared.bound.Bound.{Bound}
 use Rattle.mdr_split.specs.AnyAnswers.{kernel_in}
-use Rattle.mdr_split.specs.Kernel.{answered, answers, applied, begins, called, calls, comes_back, downcalled, ended, first_kernel, gave, judged, kernel_tree, next, over, run_from_pending, runs_kernel, serviced, split_by, split_commands, split_run, taken, then_split, went}
+use Rattle.mdr_split.specs.Kernel.{answered, answers, applied, begins, called, calls, comes_back, continued, downcalled, ended, first_kernel, gave, goes_down, judged, kernel_tree, next, over, run_from_pending, runs_kernel, serviced, split_by, split_commands, split_run, taken, then_split, went}
 use Rattle.mdr_split.specs.Legal.{fault_of}
+use Rattle.mdr_split.specs.Services.{asked_of}
 use Rattle.mdr_split.specs.State.{Kernel, Open, Base, Commanded, Down, Rest, Noted, Resumes, Pending, Over, Waits}
 use Rattle.mdr_watched.specs.Driver.{Driver, is_user}
 use Rattle.mdr_watched.specs.Views.{closed}
@@ -84,20 +86,23 @@ module _ (d : Driver) where
   service_counts asked (Ended results w) k upcall rest cs n e = answer_counts results w k _ rest cs n e
   service_counts asked (Stopped kind at w) k upcall rest cs n e = e
 
+  continued_counts : (v : Wire) (k : Kernel) (rest : Rest) (cs : List Command) (n : ℕ) → k.exchanges ≡ n → Counts n (continued d v k rest cs)
+  continued_counts v k Noted cs n e = then_counts (ended d v k.world) k (λ k'. split_commands d cs k') n e (λ k' e'. commands_count cs k' n e')
+  continued_counts v k (Resumes next' base) cs n e = went_counts base (runs_kernel d (next' v) (closed k.world)) k (λ k'. split_commands d cs k') cs n e (λ k' e'. commands_count cs k' n e')
+
+  goes_counts : (down : Downcall) (k : Kernel) (upcall : Open) (rest : Rest) (cs : List Command) (n : ℕ) → k.exchanges ≡ n → Counts n (goes_down d down k upcall rest cs)
+  goes_counts down k upcall rest cs n e =
+      let passed : List Wire = map (normal k.world.memory) down.args in
+      went_counts (Down down.at down.func passed upcall rest) (runs_kernel d (kernel_tree d down.func passed down.depth k.world) k.world) k (λ k'. split_commands d cs k') cs n e (λ k' e'. commands_count cs k' n e')
+
   taken_counts : (reply : Reply) (k : Kernel) (upcall : Open) (rest : Rest) (cs : List Command) (n : ℕ) → k.exchanges ≡ n → Counts n (taken d reply k upcall rest cs)
   unfolding taken applied
-  taken_counts (replies.Return ticks v runs) k upcall Noted cs n e =
-      then_counts (ended d v (applied ticks runs k).world) (applied ticks runs k) (λ k'. split_commands d cs k') n e (λ k' e'. commands_count cs k' n e')
-  taken_counts (replies.Return ticks v runs) k upcall (Resumes next' base) cs n e =
-      went_counts base (runs_kernel d (next' v) (closed (applied ticks runs k).world)) (applied ticks runs k) (λ k'. split_commands d cs k') cs n e (λ k' e'. commands_count cs k' n e')
-  taken_counts (replies.Down ticks at depth func args runs) k upcall rest cs n e =
-      let k' : Kernel = applied ticks runs k in
-      let passed : List Wire = map (normal k'.world.memory) args in
-      went_counts (Down at func passed upcall rest) (runs_kernel d (kernel_tree d func passed depth k'.world) k'.world) k' (λ k''. split_commands d cs k'') cs n e (λ k'' e''. commands_count cs k'' n e'')
-  taken_counts (replies.Ask ticks at service args shapes bytes runs) k upcall rest cs n e =
-      let asked : Asked = record { service = service; at = at; args = args; shapes = shapes; bytes = bytes } in
-      service_counts asked (serves d (held d) upcall.func asked (applied ticks runs k).world) (applied ticks runs k) upcall rest cs n e
-  taken_counts (replies.Stop ticks number at runs) k upcall rest cs n e = e
+  taken_counts (replies.Return return) k upcall rest cs n e = continued_counts return.result (applied return.ticks return.runs k) rest cs n e
+  taken_counts (replies.Down down) k upcall rest cs n e = goes_counts down (applied down.ticks down.runs k) upcall rest cs n e
+  taken_counts (replies.Ask ask) k upcall rest cs n e =
+      let k' : Kernel = applied ask.ticks ask.runs k in
+      service_counts (asked_of ask) (serves d (held d) upcall.func (asked_of ask) k'.world) k' upcall rest cs n e
+  taken_counts (replies.Stop said) k upcall rest cs n e = e
 
   judged_counts : (o : Option Fault) (reply : Reply) (k : Kernel) (upcall : Open) (rest : Rest) (cs : List Command) (n : ℕ) → k.exchanges ≡ n → Counts n (judged d o reply k upcall rest cs)
   judged_counts (Some f) reply k upcall rest cs n e = e

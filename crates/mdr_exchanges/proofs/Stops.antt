@@ -1,5 +1,5 @@
 -- What a run has sent so far, and where it stops for want of memory.
-use Rattle.std.proofs.Common.{◌≡◌, ℕ, zero, suc, ◌+◌, ◌*◌, ◌≤◌, ◌⊎◌, inl, inr, false, Result, Ok, Err, List, [], ◌∷◌, ◌++◌, map, length, take, Option, Some, None, refl, sym, ap, ◌∙◌, subst, append_assoc, arith}
+use Rattle.std.proofs.Common.{◌≡◌, ℕ, ◌+◌, ◌*◌, ◌≤◌, ◌⊎◌, inl, inr, Result, Ok, Err, List, [], ◌∷◌, ◌++◌, map, length, take, Option, Some, None, refl, sym, ap, ◌∙◌, subst, append_assoc, arith}
 use Rattle.std.specs.Prelude.{OnErr}
 use Rattle.std.proofs.lemmas.List.{append-nil, map-append, length-append}
 use Rattle.mdr_watched.specs.Driver.{Driver}
@@ -12,14 +12,14 @@ use Rattle.mdr_model.specs.declared.message.Message.{Message}
 use Rattle.mdr_model.specs.Memory.{Memory}
 use Rattle.mdr_model.specs.Text.{text}
 use Rattle.mdr_model.specs.Reading.{reading_of}
-use Rattle.mdr_split.specs.State.{Kernel, Open, Rest, Pending, Over, Waits}
+use Rattle.mdr_split.specs.State.{Kernel, Open, Rest, Pending, Waits}
 use Rattle.mdr_split.specs.Kernel.{SplitRun, next, run_from_pending, split_run}
 use Rattle.mdr_model.specs.Bytes.{readings}
 use Rattle.mdr_over_bytes.specs.OverBytes.{split_run_over_bytes}
 use Rattle.mdr_split.specs.AnyAnswers.{kernel_in}
 use Rattle.mdr_limits.proofs.FewMessages.{few_everywhere}
 use Rattle.mdr_exchanges.specs.Ends.{ExchangesAreFew}
-use Rattle.mdr_exchanges.specs.Runs.{sent_of, then_answers, answers_of, run_over, HasEnded}
+use Rattle.mdr_exchanges.specs.Runs.{sent_of, then_answers, answers_of, run_over}
 use Rattle.mdr_exchanges.specs.Calls.{sends, IsPlace, IsPart, IsStopped, Broke}
 use Rattle.mdr_exchanges.proofs.Turns.{AllAnswered, SoFar, first_of, run_is, sent_more, answers_more}
 use Rattle.mdr_exchanges.proofs.Endings.{as_many, few_answers, sents}

@@ -8,6 +8,7 @@ use Rattle.mdr_model.specs.declared.reply.Reply.TheVariants as replies
 use Rattle.mdr_model.specs.Faults.{first_fault, unless}
 use Rattle.mdr_split.specs.Fits.{fits}
 use Rattle.mdr_split.specs.Legal.{args_fault, fault_of, fits_service, has_down_stub, is_ask_place, is_awaited, is_user_place, kernel_places, params_of, reply_runs_fault, service_fault, ticks_fault}
+use Rattle.mdr_split.specs.Services.{asked_of}
 use Rattle.mdr_split.specs.State.{Kernel, Noted, Open, Rest}
 use Rattle.mdr_watched.specs.Driver.{Driver}
 use Rattle.mdr_watched.specs.Views.{top}
@@ -34,28 +35,28 @@ awaited_there n k ticks e =
 
 bare_judges : (d : Driver) (n : ℕ) (k : Kernel) (u : Open) (rest : Rest) → length k.world.views ≡ suc n → (r : Reply) → fault_of d (bare n k) u Noted r ≡ fault_of d k u rest r
 unfolding fault_of fits_service service_fault
-bare_judges d n k u rest e (replies.Return ticks result runs) = refl
-bare_judges d n k u rest e (replies.Down ticks at depth func args runs) =
+bare_judges d n k u rest e (replies.Return return) = refl
+bare_judges d n k u rest e (replies.Down down) =
     ap (λ b. first_fault (
     unless b refusal.NotAwaited 0
-    ∷ ticks_fault k ticks
-    ∷ unless (is_user_place d at) refusal.BadPlace 0
-    ∷ unless (nat_lt u.depth depth && nat_le depth 255) refusal.BadDepth 0
-    ∷ unless (has_down_stub d func) refusal.NoStub 0
-    ∷ args_fault (fits (kernel_places d k)) 0 (params_of (slice_get d.program.funcs func)) args
-    ∷ reply_runs_fault d k runs
+    ∷ ticks_fault k down.ticks
+    ∷ unless (is_user_place d down.at) refusal.BadPlace 0
+    ∷ unless (nat_lt u.depth down.depth && nat_le down.depth 255) refusal.BadDepth 0
+    ∷ unless (has_down_stub d down.func) refusal.NoStub 0
+    ∷ args_fault (fits (kernel_places d k)) 0 (params_of (slice_get d.program.funcs down.func)) down.args
+    ∷ reply_runs_fault d k down.runs
     ∷ []))
-    (awaited_there n k ticks e)
-bare_judges d n k u rest e (replies.Ask ticks at service args shapes bytes runs) =
+    (awaited_there n k down.ticks e)
+bare_judges d n k u rest e (replies.Ask ask) =
     ap (λ b. first_fault (
     unless b refusal.NotAwaited 0
-    ∷ ticks_fault k ticks
-    ∷ unless (is_ask_place d service at) refusal.BadPlace 0
-    ∷ service_fault d k u service args shapes bytes
-    ∷ reply_runs_fault d k runs
+    ∷ ticks_fault k ask.ticks
+    ∷ unless (is_ask_place d ask.service ask.at) refusal.BadPlace 0
+    ∷ service_fault d k u (asked_of ask)
+    ∷ reply_runs_fault d k ask.runs
     ∷ []))
-    (awaited_there n k ticks e)
-bare_judges d n k u rest e (replies.Stop ticks number at runs) = refl
+    (awaited_there n k ask.ticks e)
+bare_judges d n k u rest e (replies.Stop stop) = refl
 
 -- the code's state is that of the half
 here : (s : Standing) (k : Kernel) (u : Open) → IsWhere s k u → (r : Reply) → fault_of (driver_at s) (bare s.below k) u Noted r ≡ fault_of (driver_at s) (kernel_at s) (open_at s) Noted r

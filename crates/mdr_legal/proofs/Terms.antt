@@ -1,5 +1,5 @@
 -- What services are asked with, by their terms.
-use Rattle.std.proofs.Common.{◌≡◌, ℕ, Bool, false, List, Option, Some, None, refl, sym, ap, ◌∙◌}
+use Rattle.std.proofs.Common.{◌≡◌, Bool, false, Option, Some, None, refl, sym, ap, ◌∙◌}
 use Rattle.std.specs.Prelude.{option_map}
 use Rattle.mdr_core.specs.declared.refusal.RefuseKind.TheVariants as refusal
 use Rattle.mdr_core.specs.declared.types.Ty.{Ty}
@@ -7,35 +7,30 @@ use Rattle.mdr_core.specs.Services.{Service, service_numbered}
 use Rattle.mdr_fits.specs.declared.table.Parameter.{Parameter}
 use Rattle.mdr_fits.specs.Judged.{fits_at}
 use Rattle.mdr_fits.specs.Tables.{type_of}
-use Rattle.mdr_meaning.specs.declared.shape.Shape64.{Shape64}
 use Rattle.mdr_meaning.specs.declared.wire.Wire.{Wire}
-use Rattle.mdr_model.specs.declared.message.Fault.{Fault}
-use Rattle.mdr_model.specs.Faults.{fault, or_else, unless}
-use Rattle.mdr_split.specs.Legal.{args_fault, fits_service, is_asked_so, service_fault, service_faults}
-use Rattle.mdr_split.specs.Services.{Terms, terms_of, types_of}
+use Rattle.mdr_meaning.specs.Tree.{Asked}
+use Rattle.mdr_model.specs.Faults.{fault}
+use Rattle.mdr_split.specs.Legal.{service_fault, service_faults, terms_fault}
+use Rattle.mdr_split.specs.Services.{Terms, terms_of}
 use Rattle.mdr_split.specs.State.{Kernel, Open}
 use Rattle.mdr_watched.specs.Driver.{Driver}
 
-module _ (d : Driver) (k : Kernel) (u : Open) (args : List Wire) (shapes : List Shape64) (bytes : List ℕ) where
-  -- the faults of a question with these terms
-  abbrev pub faults_by : Option Service → Terms → Option Fault
-  faults_by o t = or_else (unless (is_asked_so d u t args shapes bytes) refusal.BadService 0) (args_fault (fits_service d k o) 0 (types_of t.arguments args) args)
-
-  pub asked_by : (o : Option Service) (t : Terms) → Some t ≡ option_map terms_of o → faults_by o t ≡ service_faults d k u o args shapes bytes
+module _ (d : Driver) (k : Kernel) (u : Open) (asked : Asked) where
+  asked_by : (o : Option Service) (t : Terms) → Some t ≡ option_map terms_of o → terms_fault d k u o t asked ≡ service_faults d k u o asked
   asked_by None t e = absurd (Prim.cc)
-  asked_by (Some s) t e = let same : t ≡ terms_of s = Prim.cc in ap (λ (x : Terms). faults_by (Some s) x) same
+  asked_by (Some s) t e = let same : t ≡ terms_of s = Prim.cc in ap (λ (x : Terms). terms_fault d k u (Some s) x asked) same
 
-  pub no_service : (o : Option Service) (found : Option Terms) → found ≡ None → found ≡ option_map terms_of o → Some (fault refusal.BadService 0) ≡ service_faults d k u o args shapes bytes
+  no_service : (o : Option Service) (found : Option Terms) → found ≡ None → found ≡ option_map terms_of o → Some (fault refusal.BadService 0) ≡ service_faults d k u o asked
   no_service None found n e = refl
   no_service (Some s) found n e = let bad : ◌≡◌ {A = Option Terms} None (Some (terms_of s)) = sym n ∙ e in absurd (Prim.cc)
 
-  pub asked_is : (n : ℕ) (t : Terms) → Some t ≡ option_map terms_of (service_numbered n) → faults_by (service_numbered n) t ≡ service_fault d k u n args shapes bytes
+  pub asked_is : (t : Terms) → Some t ≡ option_map terms_of (service_numbered asked.service) → terms_fault d k u (service_numbered asked.service) t asked ≡ service_fault d k u asked
   unfolding service_fault
-  asked_is n t e = asked_by (service_numbered n) t e
+  asked_is t e = asked_by (service_numbered asked.service) t e
 
-  pub none_is : (n : ℕ) (found : Option Terms) → found ≡ None → found ≡ option_map terms_of (service_numbered n) → Some (fault refusal.BadService 0) ≡ service_fault d k u n args shapes bytes
+  pub none_is : (found : Option Terms) → found ≡ None → found ≡ option_map terms_of (service_numbered asked.service) → Some (fault refusal.BadService 0) ≡ service_fault d k u asked
   unfolding service_fault
-  none_is n found nothing e = no_service (service_numbered n) found nothing e
+  none_is found nothing e = no_service (service_numbered asked.service) found nothing e
 
 -- an argument by the type that it has at its position
 pub argument_fits : (test : Ty → Wire → Bool) (o : Option Ty) (found : Option Parameter) (p : Parameter) (v : Wire) (b : Bool) → found ≡ Some p → option_map type_of found ≡ o → b ≡ test (type_of p) v → b ≡ fits_at test o v

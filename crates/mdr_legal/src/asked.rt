@@ -5,12 +5,12 @@ ghost use Rattle.mdr_core.specs.Services.{service_numbered};
 ghost use Rattle.mdr_core.specs.Sound.{IsSound};
 ghost use Rattle.mdr_fits.specs.Judged.{fits_at};
 ghost use Rattle.mdr_fits.specs.Tables.{arguments_as, terms_as, type_of};
-ghost use Rattle.mdr_model.specs.Faults.{fault, or_else, unless};
+ghost use Rattle.mdr_model.specs.Faults.{fault};
 ghost use Rattle.mdr_slice.specs.Calls.{names_of};
 ghost use Rattle.mdr_split.specs.Fits.{fits};
-ghost use Rattle.mdr_split.specs.Legal.{args_fault, fits_service, is_asked_so, kernel_places, may_be_given, names_kernel, service_fault};
-ghost use Rattle.mdr_split.specs.Services.{types_of};
-ghost use Rattle.mdr_legal.specs.Waiting.{driver_at, kernel_at, open_at};
+ghost use Rattle.mdr_split.specs.Legal.{args_fault, fits_service, is_asked_so, kernel_places, may_be_given, names_kernel};
+ghost use Rattle.mdr_split.specs.Services.{asked_of, types_of};
+ghost use Rattle.mdr_legal.specs.Waiting.{driver_at, kernel_at, open_at, service_fault_at, terms_fault_at};
 
 use crate::places::is_kernel_half;
 use crate::standing::Standing;
@@ -20,7 +20,7 @@ use mdr_fits::{
     Arguments, Parameter, Terms, fits_parameter, may_die, parameter, parameter_count, shapes_fit,
     terms_of,
 };
-use mdr_model::{Fault, Shape64, Wire};
+use mdr_model::{Ask, Fault, Wire};
 
 fn fault(kind: RefuseKind, number: u64) -> Option<Fault>
     ensures { result ≡ Some (fault kind number) }
@@ -117,34 +117,22 @@ fn asked_args_fault(
 }
 
 /// Whether a service is asked so, as far as its terms say it of shapes, bytes and objects that die.
-fn is_asked_so(
-    standing: Standing,
-    terms: Terms,
-    args: &[Wire],
-    shapes: &[Shape64],
-    bytes: &[u8],
-) -> bool
+fn is_asked_so(standing: Standing, terms: Terms, ask: &Ask) -> bool
     requires sound { IsSound standing.program.now }
-    ensures { result ≡ is_asked_so (driver_at standing.entry) (open_at standing.entry) (terms_as terms) args.now shapes.now bytes.now }
+    ensures { result ≡ is_asked_so (driver_at standing.entry) (open_at standing.entry) (terms_as terms) (asked_of ask.now) }
 {
-    shapes_fit(standing.program, terms.shapes, shapes)
-        && (bytes.len() <= terms.bytes as usize && may_die(terms.arguments, standing.entered, args))
+    shapes_fit(standing.program, terms.shapes, ask.shapes.as_slice())
+        && (ask.bytes.len() <= terms.bytes as usize
+            && may_die(terms.arguments, standing.entered, ask.args.as_slice()))
 }
 
-fn terms_fault(
-    standing: Standing,
-    service: u32,
-    terms: Terms,
-    args: &[Wire],
-    shapes: &[Shape64],
-    bytes: &[u8],
-) -> Option<Fault>
+fn terms_fault(standing: Standing, terms: Terms, ask: &Ask) -> Option<Fault>
     requires sound { IsSound standing.program.now }
     requires names { standing.passes.now ≡ names_of standing.program.now }
-    ensures { result ≡ or_else (unless (is_asked_so (driver_at standing.entry) (open_at standing.entry) (terms_as terms) args.now shapes.now bytes.now) RefuseKind.BadService 0) (args_fault (fits_service (driver_at standing.entry) (kernel_at standing.entry) (service_numbered service)) 0 (types_of (terms_as terms).arguments args.now) args.now) }
+    ensures { result ≡ terms_fault_at standing.entry ask.now.service (terms_as terms) (asked_of ask.now) }
 {
-    if is_asked_so(standing, terms, args, shapes, bytes) {
-        asked_args_fault(standing, service, terms.arguments, args)
+    if is_asked_so(standing, terms, ask) {
+        asked_args_fault(standing, ask.service, terms.arguments, ask.args.as_slice())
     } else {
         fault(RefuseKind::BadService, 0)
     }
@@ -152,19 +140,13 @@ fn terms_fault(
 
 /// The fault of what is asked for: of the service, and then of its arguments.
 #[tactic(auto, unfolding(mdr_split::specs::Legal::service_fault))]
-pub(crate) fn service_fault(
-    standing: Standing,
-    service: u32,
-    args: &[Wire],
-    shapes: &[Shape64],
-    bytes: &[u8],
-) -> Option<Fault>
+pub(crate) fn service_fault(standing: Standing, ask: &Ask) -> Option<Fault>
     requires sound { IsSound standing.program.now }
     requires names { standing.passes.now ≡ names_of standing.program.now }
-    ensures { result ≡ service_fault (driver_at standing.entry) (kernel_at standing.entry) (open_at standing.entry) service args.now shapes.now bytes.now }
+    ensures { result ≡ service_fault_at standing.entry (asked_of ask.now) }
 {
-    match terms_of(service) {
-        Some(terms) => terms_fault(standing, service, terms, args, shapes, bytes),
+    match terms_of(ask.service) {
+        Some(terms) => terms_fault(standing, terms, ask),
         None => fault(RefuseKind::BadService, 0),
     }
 }

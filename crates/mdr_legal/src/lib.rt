@@ -6,7 +6,6 @@ mod places;
 mod replies;
 mod standing;
 mod statements;
-mod stops;
 mod values;
 
 pub use replies::fault_of;

@@ -1,23 +1,23 @@
 // Which replies are legal.
 
-ghost use Rattle.std.specs.Prelude.{◌≡◌, ◌∷◌, [], ◌&&◌, nat_le, nat_lt, slice_get};
+ghost use Rattle.std.specs.Prelude.{◌≡◌, ◌∷◌, [], ◌&&◌, nat_le, nat_lt};
 ghost use Rattle.mdr_core.specs.Sound.{IsSound};
 ghost use Rattle.mdr_model.specs.declared.reply.Reply.TheVariants as replies;
-ghost use Rattle.mdr_model.specs.Faults.{fault, first_fault, unless};
+ghost use Rattle.mdr_model.specs.Faults.{fault, first_fault};
+ghost use Rattle.mdr_model.specs.ReplyFaults.{is_stop};
 ghost use Rattle.mdr_slice.specs.Calls.{names_of};
-ghost use Rattle.mdr_split.specs.Fits.{fits};
-ghost use Rattle.mdr_split.specs.Legal.{args_fault, fault_of, has_down_stub, has_none, is_awaited, kernel_places, params_of, reply_runs_fault, service_fault, ticks_fault};
-ghost use Rattle.mdr_split.specs.State.{Kernel, Noted, Open, Rest};
+ghost use Rattle.mdr_split.specs.Legal.{fault_of, has_none, is_awaited};
+ghost use Rattle.mdr_split.specs.Services.{asked_of};
+ghost use Rattle.mdr_split.specs.State.{Kernel, Open, Rest};
 ghost use Rattle.mdr_watched.specs.Driver.{driver_of};
-ghost use Rattle.mdr_legal.specs.Waiting.{IsWhere, driver_at, kernel_at, open_at};
+ghost use Rattle.mdr_legal.specs.Waiting.{IsWhere, fault_at, kernel_at, runs_fault_at, service_fault_at, stub_fault_at};
 
 use crate::asked::service_fault;
 use crate::places::{has_down_stub, is_ask_place, is_user_place};
 use crate::standing::Standing;
-use crate::stops::is_stop;
 use crate::values::{call_args_fault, fits_upcall, reply_runs_fault};
-use mdr_core::{At, RefuseKind};
-use mdr_model::{Fault, Reply, Run, Shape64, Wire};
+use mdr_core::RefuseKind;
+use mdr_model::{Ask, Down, Fault, Reply, Return, Stop, user_stop};
 
 fn fault(kind: RefuseKind) -> Option<Fault>
     ensures { result ≡ Some (fault kind 0) }
@@ -61,19 +61,19 @@ fn has_none(serials: &[u64]) -> bool
 }
 
 #[tactic(auto, unfolding(mdr_split::specs::Legal::fault_of))]
-fn return_fault(standing: Standing, ticks: u64, value: Wire, runs: &[Run]) -> Option<Fault>
+fn return_fault(standing: Standing, returned: &Return) -> Option<Fault>
     requires sound { IsSound standing.program.now }
     requires names { standing.passes.now ≡ names_of standing.program.now }
-    ensures { result ≡ fault_of (driver_at standing.entry) (kernel_at standing.entry) (open_at standing.entry) Noted (replies.Return ticks value runs.now) }
+    ensures { result ≡ fault_at standing.entry (replies.Return returned.now) }
 {
-    if !(ticks <= standing.rest) {
+    if !(returned.ticks <= standing.rest) {
         fault(RefuseKind::TooManyTicks)
-    } else if !fits_upcall(standing, value) {
+    } else if !fits_upcall(standing, returned.result) {
         fault(RefuseKind::BadResult)
     } else if !has_none(standing.entered) {
         fault(RefuseKind::StillEntered)
     } else {
-        first_of(None, reply_runs_fault(standing, runs))
+        first_of(None, reply_runs_fault(standing, returned.runs.as_slice()))
     }
 }
 
@@ -84,162 +84,104 @@ fn is_depth(before: u32, depth: u32) -> bool
     before < depth && depth <= 255
 }
 
-/// The faults of a downcall behind its depth.
-fn stub_fault(standing: Standing, func: u32, args: &[Wire], runs: &[Run]) -> Option<Fault>
+/// The fault of a downcall behind its depth.
+fn stub_fault(standing: Standing, down: &Down) -> Option<Fault>
     requires sound { IsSound standing.program.now }
     requires names { standing.passes.now ≡ names_of standing.program.now }
-    ensures { result ≡ first_fault (unless (has_down_stub (driver_at standing.entry) func) RefuseKind.NoStub 0 ∷ args_fault (fits (kernel_places (driver_at standing.entry) (kernel_at standing.entry))) 0 (params_of (slice_get standing.entry.program.now.funcs func)) args.now ∷ reply_runs_fault (driver_at standing.entry) (kernel_at standing.entry) runs.now ∷ []) }
+    ensures { result ≡ stub_fault_at standing.entry down.now }
 {
-    if !has_down_stub(standing, func) {
+    if !has_down_stub(standing, down.func) {
         fault(RefuseKind::NoStub)
     } else {
         first_of(
-            call_args_fault(standing, func, args),
-            reply_runs_fault(standing, runs),
+            call_args_fault(standing, down.func, down.args.as_slice()),
+            reply_runs_fault(standing, down.runs.as_slice()),
         )
     }
 }
 
 #[tactic(auto, unfolding(mdr_split::specs::Legal::fault_of))]
-fn down_fault(
-    standing: Standing,
-    ticks: u64,
-    at: At,
-    depth: u32,
-    func: u32,
-    args: &[Wire],
-    runs: &[Run],
-) -> Option<Fault>
+fn down_fault(standing: Standing, down: &Down) -> Option<Fault>
     requires sound { IsSound standing.program.now }
     requires names { standing.passes.now ≡ names_of standing.program.now }
-    ensures { result ≡ fault_of (driver_at standing.entry) (kernel_at standing.entry) (open_at standing.entry) Noted (replies.Down ticks at depth func args.now runs.now) }
+    ensures { result ≡ fault_at standing.entry (replies.Down down.now) }
 {
-    if !is_awaited(standing, ticks) {
+    if !is_awaited(standing, down.ticks) {
         fault(RefuseKind::NotAwaited)
-    } else if !(ticks <= standing.rest) {
+    } else if !(down.ticks <= standing.rest) {
         fault(RefuseKind::TooManyTicks)
-    } else if !is_user_place(standing, at) {
+    } else if !is_user_place(standing, down.at) {
         fault(RefuseKind::BadPlace)
-    } else if !is_depth(standing.depth, depth) {
+    } else if !is_depth(standing.depth, down.depth) {
         fault(RefuseKind::BadDepth)
     } else {
-        stub_fault(standing, func, args, runs)
+        stub_fault(standing, down)
     }
 }
 
-/// The faults of what a service is asked for with, and of the runs.
-fn question_fault(
-    standing: Standing,
-    service: u32,
-    args: &[Wire],
-    shapes: &[Shape64],
-    bytes: &[u8],
-    runs: &[Run],
-) -> Option<Fault>
+/// The fault of what a service is asked for with, and of the runs.
+fn question_fault(standing: Standing, ask: &Ask) -> Option<Fault>
     requires sound { IsSound standing.program.now }
     requires names { standing.passes.now ≡ names_of standing.program.now }
-    ensures { result ≡ first_fault (service_fault (driver_at standing.entry) (kernel_at standing.entry) (open_at standing.entry) service args.now shapes.now bytes.now ∷ reply_runs_fault (driver_at standing.entry) (kernel_at standing.entry) runs.now ∷ []) }
+    ensures { result ≡ first_fault (service_fault_at standing.entry (asked_of ask.now) ∷ runs_fault_at standing.entry ask.now.runs ∷ []) }
 {
     first_of(
-        service_fault(standing, service, args, shapes, bytes),
-        reply_runs_fault(standing, runs),
+        service_fault(standing, ask),
+        reply_runs_fault(standing, ask.runs.as_slice()),
     )
 }
 
 #[tactic(auto, unfolding(mdr_split::specs::Legal::fault_of))]
-fn ask_fault(
-    standing: Standing,
-    ticks: u64,
-    at: At,
-    service: u32,
-    args: &[Wire],
-    shapes: &[Shape64],
-    bytes: &[u8],
-    runs: &[Run],
-) -> Option<Fault>
+fn ask_fault(standing: Standing, ask: &Ask) -> Option<Fault>
     requires sound { IsSound standing.program.now }
     requires names { standing.passes.now ≡ names_of standing.program.now }
-    ensures { result ≡ fault_of (driver_at standing.entry) (kernel_at standing.entry) (open_at standing.entry) Noted (replies.Ask ticks at service args.now shapes.now bytes.now runs.now) }
+    ensures { result ≡ fault_at standing.entry (replies.Ask ask.now) }
 {
-    if !is_awaited(standing, ticks) {
+    if !is_awaited(standing, ask.ticks) {
         fault(RefuseKind::NotAwaited)
-    } else if !(ticks <= standing.rest) {
+    } else if !(ask.ticks <= standing.rest) {
         fault(RefuseKind::TooManyTicks)
-    } else if !is_ask_place(standing, service, at) {
+    } else if !is_ask_place(standing, ask.service, ask.at) {
         fault(RefuseKind::BadPlace)
     } else {
-        question_fault(standing, service, args, shapes, bytes, runs)
+        question_fault(standing, ask)
     }
 }
 
+/// Whether user code may stop so. A run that is out of ticks has used them all.
+fn is_stop(number: u32, ticks: u64, rest: u64) -> bool
+    ensures { result ≡ is_stop number ticks rest }
+{
+    user_stop(number).is_some() && (!(number == 16) || ticks == rest)
+}
+
 #[tactic(auto, unfolding(mdr_split::specs::Legal::fault_of))]
-fn stop_fault(standing: Standing, ticks: u64, number: u32, at: At, runs: &[Run]) -> Option<Fault>
+fn stop_fault(standing: Standing, stop: &Stop) -> Option<Fault>
     requires sound { IsSound standing.program.now }
     requires names { standing.passes.now ≡ names_of standing.program.now }
-    ensures { result ≡ fault_of (driver_at standing.entry) (kernel_at standing.entry) (open_at standing.entry) Noted (replies.Stop ticks number at runs.now) }
+    ensures { result ≡ fault_at standing.entry (replies.Stop stop.now) }
 {
-    if !(ticks <= standing.rest) {
+    if !(stop.ticks <= standing.rest) {
         fault(RefuseKind::TooManyTicks)
-    } else if !is_user_place(standing, at) {
+    } else if !is_user_place(standing, stop.at) {
         fault(RefuseKind::BadPlace)
-    } else if !is_stop(number, ticks, standing.rest) {
+    } else if !is_stop(stop.stop, stop.ticks, standing.rest) {
         fault(RefuseKind::BadStop)
     } else {
-        first_of(None, reply_runs_fault(standing, runs))
+        first_of(None, reply_runs_fault(standing, stop.runs.as_slice()))
     }
 }
 
 fn reply_fault(standing: Standing, reply: &Reply) -> Option<Fault>
     requires sound { IsSound standing.program.now }
     requires names { standing.passes.now ≡ names_of standing.program.now }
-    ensures { result ≡ fault_of (driver_at standing.entry) (kernel_at standing.entry) (open_at standing.entry) Noted reply.now }
+    ensures { result ≡ fault_at standing.entry reply.now }
 {
     match reply {
-        Reply::Return {
-            ticks,
-            result,
-            runs,
-        } => return_fault(standing, *ticks, *result, runs.as_slice()),
-        Reply::Down {
-            ticks,
-            at,
-            depth,
-            func,
-            args,
-            runs,
-        } => down_fault(
-            standing,
-            *ticks,
-            *at,
-            *depth,
-            *func,
-            args.as_slice(),
-            runs.as_slice(),
-        ),
-        Reply::Ask {
-            ticks,
-            at,
-            service,
-            args,
-            shapes,
-            bytes,
-            runs,
-        } => ask_fault(
-            standing,
-            *ticks,
-            *at,
-            *service,
-            args.as_slice(),
-            shapes.as_slice(),
-            bytes.as_slice(),
-            runs.as_slice(),
-        ),
-        Reply::Stop {
-            ticks,
-            stop,
-            at,
-            runs,
-        } => stop_fault(standing, *ticks, *stop, *at, runs.as_slice()),
+        Reply::Return(returned) => return_fault(standing, returned),
+        Reply::Down(down) => down_fault(standing, down),
+        Reply::Ask(ask) => ask_fault(standing, ask),
+        Reply::Stop(stop) => stop_fault(standing, stop),
     }
 }
 

@@ -125,10 +125,10 @@ module _ (p : Places) (view : List Cell) where
 
 -- the runs of a reply without a fault have none
 told_faultless : (d : Driver) (k : Kernel) (upcall : Open) (rest : Rest) (reply : Reply) → fault_of d k upcall rest reply ≡ None → reply_runs_fault d k (runs_told reply) ≡ None
-told_faultless d k upcall rest (replies.Return ticks result runs) e = (faultless d k upcall rest (replies.Return ticks result runs) e).1.1.1.0
-told_faultless d k upcall rest (replies.Down ticks at depth func args runs) e = (faultless d k upcall rest (replies.Down ticks at depth func args runs) e).1.1.1.1.1.1.0
-told_faultless d k upcall rest (replies.Ask ticks at service args shapes bytes runs) e = (faultless d k upcall rest (replies.Ask ticks at service args shapes bytes runs) e).1.1.1.1.0
-told_faultless d k upcall rest (replies.Stop ticks number at runs) e = (faultless d k upcall rest (replies.Stop ticks number at runs) e).1.1.1.0
+told_faultless d k upcall rest (replies.Return return) e = (faultless d k upcall rest (replies.Return return) e).1.1.1.0
+told_faultless d k upcall rest (replies.Down down) e = (faultless d k upcall rest (replies.Down down) e).1.1.1.1.1.1.0
+told_faultless d k upcall rest (replies.Ask ask) e = (faultless d k upcall rest (replies.Ask ask) e).1.1.1.1.0
+told_faultless d k upcall rest (replies.Stop said) e = (faultless d k upcall rest (replies.Stop said) e).1.1.1.0
 
 -- runs without a fault are stored so, wherever the kernel half stands
 pub faultless_contained : (d : Driver) (k : Kernel) (rs : List Run) → reply_runs_fault d k rs ≡ None → IsContained d.program k.world.memory (put_runs rs k.world.memory) (top k.world.views)

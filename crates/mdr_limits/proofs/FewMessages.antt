@@ -43,6 +43,7 @@ use Rattle.mdr_bound.specs.declared.bound.Bound.{Bound}
 use Rattle.mdr_split.specs.AnyAnswers.{MessagesAreFew, kernel_in}
 use Rattle.mdr_split.specs.Kernel.{answered, answers, applied, called, calls, comes_back, continued, downcalled, ended, first_kernel, gave, judged, kernel_tree, next, over, run_from_pending, runs_kernel, serviced, split_by, split_commands, split_run, taken, then_split, went}
 use Rattle.mdr_split.specs.Legal.{fault_of, has_down_stub, is_awaited, is_true}
+use Rattle.mdr_split.specs.Services.{asked_of}
 use Rattle.mdr_split.specs.State.{Kernel, Open, Base, Commanded, Down, Rest, Noted, Resumes, Pending, Over, Waits}
 use Rattle.mdr_watched.specs.Driver.{Driver, entry_roots, is_user, touched_by}
 use Rattle.mdr_watched.specs.Views.{below, closed, opened, taken as with_set}
@@ -313,21 +314,22 @@ module _ (d : Driver) where
 
   taken_good : (reply : Reply) (k : Kernel) (upcall : Open) (rest : Rest) (script : List Command) → fault_of d k upcall rest reply ≡ None → WaitsGood k rest → Good (taken d reply k upcall rest script)
   unfolding taken applied
-  taken_good (replies.Return ticks v runs) k upcall rest script e h =
-      continued_good v (applied ticks runs k) rest script (record { spaced = h.spaced; open_is = h.open_is; few = omega (arith, h.few) })
-  taken_good (replies.Down ticks at depth func args runs) k upcall rest script e h =
-      let passes = faultless d k upcall rest (replies.Down ticks at depth func args runs) e in
-      let stub : has_down_stub d func ≡ true = unless_passes (has_down_stub d func) refusal.NoStub 0 passes.1.1.1.1.0 in
-      let paid : 2 * k.exchanges + 2 * length k.world.views ≤ bound (applied ticks runs k).world = asked_pays k ticks runs (unless_passes (is_awaited k ticks) refusal.NotAwaited 0 passes.0) in
-      downed_good upcall rest at func (map (normal (applied ticks runs k).world.memory) args) depth (applied ticks runs k) script (and_right (is_true (slice_get d.plan.down func)) _ stub) h.spaced h.open_is paid
-  taken_good (replies.Ask ticks at service args shapes bytes runs) k upcall rest script e h =
-      let passes = faultless d k upcall rest (replies.Ask ticks at service args shapes bytes runs) e in
-      let asked : Asked = record { service = service; at = at; args = args; shapes = shapes; bytes = bytes } in
-      let k' : Kernel = applied ticks runs k in
-      let paid : 2 * k.exchanges + 2 * length k.world.views ≤ bound k'.world = asked_pays k ticks runs (unless_passes (is_awaited k ticks) refusal.NotAwaited 0 passes.0) in
+  taken_good (replies.Return return) k upcall rest script e h =
+      continued_good return.result (applied return.ticks return.runs k) rest script (record { spaced = h.spaced; open_is = h.open_is; few = omega (arith, h.few) })
+  taken_good (replies.Down down) k upcall rest script e h =
+      let passes = faultless d k upcall rest (replies.Down down) e in
+      let k' : Kernel = applied down.ticks down.runs k in
+      let stub : has_down_stub d down.func ≡ true = unless_passes (has_down_stub d down.func) refusal.NoStub 0 passes.1.1.1.1.0 in
+      let paid : 2 * k.exchanges + 2 * length k.world.views ≤ bound k'.world = asked_pays k down.ticks down.runs (unless_passes (is_awaited k down.ticks) refusal.NotAwaited 0 passes.0) in
+      downed_good upcall rest down.at down.func (map (normal k'.world.memory) down.args) down.depth k' script (and_right (is_true (slice_get d.plan.down down.func)) _ stub) h.spaced h.open_is paid
+  taken_good (replies.Ask ask) k upcall rest script e h =
+      let passes = faultless d k upcall rest (replies.Ask ask) e in
+      let asked : Asked = asked_of ask in
+      let k' : Kernel = applied ask.ticks ask.runs k in
+      let paid : 2 * k.exchanges + 2 * length k.world.views ≤ bound k'.world = asked_pays k ask.ticks ask.runs (unless_passes (is_awaited k ask.ticks) refusal.NotAwaited 0 passes.0) in
       let some : 1 ≤ length k.world.views = omega (arith, h.open_is, opens_some rest) in
       service_good k'.world asked (serves d (held d) upcall.func asked k'.world) k' upcall rest script h.spaced h.open_is paid (asks_lead k'.world d upcall.func asked k'.world some (itself k'.world))
-  taken_good (replies.Stop ticks number at runs) k upcall rest script e h = let paid = waits_paid k rest h in omega (arith, paid)
+  taken_good (replies.Stop said) k upcall rest script e h = let paid = waits_paid k rest h in omega (arith, paid)
 
   judged_good : (reply : Reply) (k : Kernel) (upcall : Open) (rest : Rest) (script : List Command) → WaitsGood k rest → Good (judged d (fault_of d k upcall rest reply) reply k upcall rest script)
   judged_good reply k upcall rest script h = of (fault_of d k upcall rest reply) refl

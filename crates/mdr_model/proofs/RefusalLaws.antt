@@ -2,8 +2,9 @@
 use Rattle.std.proofs.Common.{◌≡◌, ℕ, true, List, [], ◌∷◌, ◌++◌, refl, ap}
 use Rattle.mdr_model.specs.declared.message.Message.{Message}
 use Rattle.mdr_model.specs.declared.message.Message.TheVariants as message
+use Rattle.mdr_model.specs.declared.reply.Reply.TheVariants as replies
 use Rattle.mdr_model.specs.Xdr.{four}
-use Rattle.mdr_model.specs.Text.{text}
+use Rattle.mdr_model.specs.Text.{reply_text, text}
 use Rattle.mdr_model.specs.Reading.{reading_of}
 use Rattle.mdr_model.specs.KernelState.{Reading}
 use Rattle.mdr_model.specs.Bytes.{readings}
@@ -19,12 +20,12 @@ readings-append (x ∷ xs) ys = ap (λ (zs : List Reading). reading_of x ∷ zs)
 
 -- a refusal that its spelling shows
 pub shown_refusal : (m : Message) (reason : ℕ) → text m ≡ text (message.Refuse reason) → is_refusal m ≡ true
-unfolding text four
-shown_refusal (message.Call func depth rest args told) reason e = absurd (Prim.cc)
-shown_refusal (message.Return ticks result runs) reason e = absurd (Prim.cc)
-shown_refusal (message.Down ticks at depth func args runs) reason e = absurd (Prim.cc)
-shown_refusal (message.Back rest result told) reason e = absurd (Prim.cc)
-shown_refusal (message.Ask ticks at service args shapes bytes runs) reason e = absurd (Prim.cc)
-shown_refusal (message.Answer results deaths news) reason e = absurd (Prim.cc)
-shown_refusal (message.Stop ticks number at runs) reason e = absurd (Prim.cc)
+unfolding text reply_text four
+shown_refusal (message.Call call) reason e = absurd (Prim.cc)
+shown_refusal (message.Back back) reason e = absurd (Prim.cc)
+shown_refusal (message.Answer answer) reason e = absurd (Prim.cc)
+shown_refusal (message.Reply (replies.Return return)) reason e = absurd (Prim.cc)
+shown_refusal (message.Reply (replies.Down down)) reason e = absurd (Prim.cc)
+shown_refusal (message.Reply (replies.Ask ask)) reason e = absurd (Prim.cc)
+shown_refusal (message.Reply (replies.Stop stop)) reason e = absurd (Prim.cc)
 shown_refusal (message.Refuse given) reason e = refl

@@ -25,7 +25,7 @@ pub record IsContained (program : Program) (before after : Memory) (view : List 
 
 -- the runs that a reply tells
 abbrev pub runs_told : Reply → List Run
-runs_told (replies.Return ticks result runs) = runs
-runs_told (replies.Down ticks at depth func args runs) = runs
-runs_told (replies.Ask ticks at service args shapes bytes runs) = runs
-runs_told (replies.Stop ticks number at runs) = runs
+runs_told (replies.Return return) = return.runs
+runs_told (replies.Down down) = down.runs
+runs_told (replies.Ask ask) = ask.runs
+runs_told (replies.Stop stop) = stop.runs

@@ -8,8 +8,11 @@ use Rattle.mdr_core.specs.declared.place.At.{At}
 use Rattle.mdr_meaning.specs.declared.wire.Wire.{Wire}
 use Rattle.mdr_meaning.specs.declared.wire.Wire.TheVariants as wire
 use Rattle.mdr_meaning.specs.declared.wire.WireView.{WireView}
+use Rattle.mdr_model.specs.declared.message.Answer.{Answer}
+use Rattle.mdr_model.specs.declared.message.Back.{Back}
 use Rattle.mdr_model.specs.declared.message.BirthKind.{BirthKind}
 use Rattle.mdr_model.specs.declared.message.BirthKind.TheVariants.{Static, Heap, Auto}
+use Rattle.mdr_model.specs.declared.message.Call.{Call}
 use Rattle.mdr_model.specs.declared.message.New.{New}
 use Rattle.mdr_model.specs.declared.message.Run.{Run}
 use Rattle.mdr_model.specs.declared.message.SetRun.{SetRun}
@@ -18,6 +21,11 @@ use Rattle.mdr_meaning.specs.declared.shape.Shape64.{Shape64}
 use Rattle.mdr_model.specs.declared.message.Fault.{Fault}
 use Rattle.mdr_model.specs.declared.message.Message.{Message}
 use Rattle.mdr_model.specs.declared.message.Message.TheVariants as message
+use Rattle.mdr_model.specs.declared.reply.Ask.{Ask}
+use Rattle.mdr_model.specs.declared.reply.Down.{Down}
+use Rattle.mdr_model.specs.declared.reply.Reply.TheVariants as replies
+use Rattle.mdr_model.specs.declared.reply.Return.{Return}
+use Rattle.mdr_model.specs.declared.reply.Stop.{Stop}
 use Rattle.mdr_model.specs.Faults.{fault}
 use Rattle.mdr_model.specs.Xdr.{Input, Read, ◌>>=◌, four_at, eight_at, item_at, opaque_at, list_at}
 
@@ -121,23 +129,23 @@ told_at i = do
 
 -- ---- messages, behind their kind
 
-unfoldable pub call_at : Input → Read Message
+unfoldable pub call_at : Input → Read Call
 call_at i = do
   func ← four_at i
   depth ← four_at func.1
   rest ← eight_at depth.1
   args ← list_at value_at rest.1
   told ← told_at args.1
-  Ok (message.Call func.0 depth.0 rest.0 args.0 told.0, told.1)
+  Ok (record { func = func.0; depth = depth.0; rest = rest.0; args = args.0; told = told.0 }, told.1)
 
-unfoldable pub return_at : Input → Read Message
+unfoldable pub return_at : Input → Read Return
 return_at i = do
   ticks ← eight_at i
   result ← value_at ticks.1
   runs ← list_at run_at result.1
-  Ok (message.Return ticks.0 result.0 runs.0, runs.1)
+  Ok (record { ticks = ticks.0; result = result.0; runs = runs.0 }, runs.1)
 
-unfoldable pub down_at : Input → Read Message
+unfoldable pub down_at : Input → Read Down
 down_at i = do
   ticks ← eight_at i
   at ← place_at ticks.1
@@ -145,16 +153,16 @@ down_at i = do
   func ← four_at depth.1
   args ← list_at value_at func.1
   runs ← list_at run_at args.1
-  Ok (message.Down ticks.0 at.0 depth.0 func.0 args.0 runs.0, runs.1)
+  Ok (record { ticks = ticks.0; at = at.0; depth = depth.0; func = func.0; args = args.0; runs = runs.0 }, runs.1)
 
-unfoldable pub back_at : Input → Read Message
+unfoldable pub back_at : Input → Read Back
 back_at i = do
   rest ← eight_at i
   result ← value_at rest.1
   told ← told_at result.1
-  Ok (message.Back rest.0 result.0 told.0, told.1)
+  Ok (record { rest = rest.0; result = result.0; told = told.0 }, told.1)
 
-unfoldable pub ask_at : Input → Read Message
+unfoldable pub ask_at : Input → Read Ask
 ask_at i = do
   ticks ← eight_at i
   at ← place_at ticks.1
@@ -163,38 +171,39 @@ ask_at i = do
   shapes ← list_at shape_at args.1
   bytes ← opaque_at shapes.1
   runs ← list_at run_at bytes.1
-  Ok (message.Ask ticks.0 at.0 service.0 args.0 shapes.0 bytes.0 runs.0, runs.1)
+  Ok (record { ticks = ticks.0; at = at.0; service = service.0; args = args.0; shapes = shapes.0; bytes = bytes.0; runs = runs.0 }, runs.1)
 
-unfoldable pub answer_at : Input → Read Message
+unfoldable pub answer_at : Input → Read Answer
 answer_at i = do
   results ← list_at value_at i
   deaths ← list_at eight_at results.1
   news ← list_at new_at deaths.1
-  Ok (message.Answer results.0 deaths.0 news.0, news.1)
+  Ok (record { results = results.0; deaths = deaths.0; news = news.0 }, news.1)
 
-unfoldable pub stop_at : Input → Read Message
+unfoldable pub stop_at : Input → Read Stop
 stop_at i = do
   ticks ← eight_at i
   stop ← four_at ticks.1
   at ← place_at stop.1
   runs ← list_at run_at at.1
-  Ok (message.Stop ticks.0 stop.0 at.0 runs.0, runs.1)
+  Ok (record { ticks = ticks.0; stop = stop.0; at = at.0; runs = runs.0 }, runs.1)
 
-unfoldable pub refuse_at : Input → Read Message
-refuse_at i = do
-  reason ← four_at i
-  Ok (message.Refuse reason.0, reason.1)
+-- what a reader reads, as the message that it is
+abbrev pub made : {A : Type 0} → (A → Message) → (Input → Read A) → Input → Read Message
+made make read i = do
+  payload ← read i
+  Ok (make payload.0, payload.1)
 
 unfoldable pub message_by : ℕ → ℕ → Input → Read Message
 message_by kind kind_at i =
-    cond (kind == 1) (call_at i)
-    (cond (kind == 2) (return_at i)
-    (cond (kind == 3) (down_at i)
-    (cond (kind == 4) (back_at i)
-    (cond (kind == 5) (ask_at i)
-    (cond (kind == 6) (answer_at i)
-    (cond (kind == 7) (stop_at i)
-    (cond (kind == 8) (refuse_at i) (Err (fault refusal.Kind kind_at)))))))))
+    cond (kind == 1) (made (λ call. message.Call call) call_at i)
+    (cond (kind == 2) (made (λ return. message.Reply (replies.Return return)) return_at i)
+    (cond (kind == 3) (made (λ down. message.Reply (replies.Down down)) down_at i)
+    (cond (kind == 4) (made (λ back. message.Back back) back_at i)
+    (cond (kind == 5) (made (λ ask. message.Reply (replies.Ask ask)) ask_at i)
+    (cond (kind == 6) (made (λ answer. message.Answer answer) answer_at i)
+    (cond (kind == 7) (made (λ stop. message.Reply (replies.Stop stop)) stop_at i)
+    (cond (kind == 8) (made (λ reason. message.Refuse reason) four_at i) (Err (fault refusal.Kind kind_at)))))))))
 
 unfoldable pub message_at : Input → Read Message
 message_at i = do

@@ -6,20 +6,13 @@ use Rattle.mdr_core.specs.declared.stop.StopKind.TheVariants as stop
 use Rattle.mdr_model.specs.declared.message.Message.{Message}
 use Rattle.mdr_model.specs.declared.message.Message.TheVariants as message
 use Rattle.mdr_model.specs.declared.reply.Reply.{Reply}
-use Rattle.mdr_model.specs.declared.reply.Reply.TheVariants as replies
 
 -- ---- replies
 
--- a message is a reply where it is of one of these four kinds; the others are never awaited
+-- the messages that can be awaited
 abbrev pub reply_of : Message → Option Reply
-reply_of (message.Return ticks result runs) = Some (replies.Return ticks result runs)
-reply_of (message.Down ticks at depth func args runs) = Some (replies.Down ticks at depth func args runs)
-reply_of (message.Ask ticks at service args shapes bytes runs) = Some (replies.Ask ticks at service args shapes bytes runs)
-reply_of (message.Stop ticks number at runs) = Some (replies.Stop ticks number at runs)
-reply_of (message.Call func depth left args told) = None
-reply_of (message.Back left result told) = None
-reply_of (message.Answer results deaths news) = None
-reply_of (message.Refuse reason) = None
+reply_of (message.Reply reply) = Some reply
+reply_of _ = None
 
 -- ---- stops
 

@@ -6,8 +6,11 @@ use Rattle.mdr_core.specs.Kinds.{kind_number}
 use Rattle.mdr_meaning.specs.declared.wire.Wire.{Wire}
 use Rattle.mdr_meaning.specs.declared.wire.Wire.TheVariants as wire
 use Rattle.mdr_meaning.specs.declared.wire.WireView.{WireView}
+use Rattle.mdr_model.specs.declared.message.Answer.{Answer}
+use Rattle.mdr_model.specs.declared.message.Back.{Back}
 use Rattle.mdr_model.specs.declared.message.BirthKind.{BirthKind}
 use Rattle.mdr_model.specs.declared.message.BirthKind.TheVariants.{Static, Heap, Auto}
+use Rattle.mdr_model.specs.declared.message.Call.{Call}
 use Rattle.mdr_model.specs.declared.message.New.{New}
 use Rattle.mdr_model.specs.declared.message.Run.{Run}
 use Rattle.mdr_model.specs.declared.message.SetRun.{SetRun}
@@ -15,6 +18,12 @@ use Rattle.mdr_model.specs.declared.message.Told.{Told}
 use Rattle.mdr_meaning.specs.declared.shape.Shape64.{Shape64}
 use Rattle.mdr_model.specs.declared.message.Message.{Message}
 use Rattle.mdr_model.specs.declared.message.Message.TheVariants as message
+use Rattle.mdr_model.specs.declared.reply.Ask.{Ask}
+use Rattle.mdr_model.specs.declared.reply.Down.{Down}
+use Rattle.mdr_model.specs.declared.reply.Reply.{Reply}
+use Rattle.mdr_model.specs.declared.reply.Reply.TheVariants as replies
+use Rattle.mdr_model.specs.declared.reply.Return.{Return}
+use Rattle.mdr_model.specs.declared.reply.Stop.{Stop}
 use Rattle.mdr_model.specs.Xdr.{four, eight, item, opaque, listed}
 
 -- ---- parts
@@ -76,15 +85,42 @@ shapes_text shapes = listed shape_text shapes
 
 -- ---- messages
 
--- the kind, and the fields in their order
+-- the fields behind the kind, in their order
+unfoldable pub call_text : Call → List ℕ
+call_text call = four call.func ++ (four call.depth ++ (eight call.rest ++ (values_text call.args ++ told_text call.told)))
+
+unfoldable pub return_text : Return → List ℕ
+return_text return = eight return.ticks ++ (value_text return.result ++ runs_text return.runs)
+
+unfoldable pub down_text : Down → List ℕ
+down_text down = eight down.ticks ++ (at_text down.at ++ (four down.depth ++ (four down.func ++ (values_text down.args ++ runs_text down.runs))))
+
+unfoldable pub back_text : Back → List ℕ
+back_text back = eight back.rest ++ (value_text back.result ++ told_text back.told)
+
+-- what a service is asked with, and what changed
+abbrev pub asked_text : Ask → List ℕ
+asked_text ask = values_text ask.args ++ (shapes_text ask.shapes ++ (opaque ask.bytes ++ runs_text ask.runs))
+
+unfoldable pub ask_text : Ask → List ℕ
+ask_text ask = eight ask.ticks ++ (at_text ask.at ++ (four ask.service ++ asked_text ask))
+
+unfoldable pub answer_text : Answer → List ℕ
+answer_text answer = values_text answer.results ++ (serials_text answer.deaths ++ news_text answer.news)
+
+unfoldable pub stop_text : Stop → List ℕ
+stop_text stop = eight stop.ticks ++ (four stop.stop ++ (at_text stop.at ++ runs_text stop.runs))
+
+-- the kind, and the fields
+unfoldable pub reply_text : Reply → List ℕ
+reply_text (replies.Return return) = four 2 ++ return_text return
+reply_text (replies.Down down) = four 3 ++ down_text down
+reply_text (replies.Ask ask) = four 5 ++ ask_text ask
+reply_text (replies.Stop stop) = four 7 ++ stop_text stop
+
 unfoldable pub text : Message → List ℕ
-text (message.Call func depth rest args told) = four 1 ++ (four func ++ (four depth ++ (eight rest ++ (values_text args ++ told_text told))))
-text (message.Return ticks result runs) = four 2 ++ (eight ticks ++ (value_text result ++ runs_text runs))
-text (message.Down ticks at depth func args runs) =
-    four 3 ++ (eight ticks ++ (at_text at ++ (four depth ++ (four func ++ (values_text args ++ runs_text runs)))))
-text (message.Back rest result told) = four 4 ++ (eight rest ++ (value_text result ++ told_text told))
-text (message.Ask ticks at service args shapes bytes runs) =
-    four 5 ++ (eight ticks ++ (at_text at ++ (four service ++ (values_text args ++ (shapes_text shapes ++ (opaque bytes ++ runs_text runs))))))
-text (message.Answer results deaths news) = four 6 ++ (values_text results ++ (serials_text deaths ++ news_text news))
-text (message.Stop ticks stop at runs) = four 7 ++ (eight ticks ++ (four stop ++ (at_text at ++ runs_text runs)))
+text (message.Call call) = four 1 ++ call_text call
+text (message.Back back) = four 4 ++ back_text back
+text (message.Answer answer) = four 6 ++ answer_text answer
+text (message.Reply reply) = reply_text reply
 text (message.Refuse reason) = four 8 ++ four reason

@@ -55,8 +55,8 @@ still_live copy c = is_live copy c.serial
 
 -- the ticks that a message grants
 abbrev pub granted : Reading → ℕ
-granted (Ok (message.Call func depth rest args told)) = rest
-granted (Ok (message.Back rest result told)) = rest
+granted (Ok (message.Call call)) = call.rest
+granted (Ok (message.Back back)) = back.rest
 granted (Ok _) = 0
 granted (Err f) = 0
 

@@ -2,13 +2,17 @@
 -- Messages worked out to the byte.
 use Rattle.std.specs.Prelude.{◌≡◌, ℕ, List, [], ◌∷◌, ◌++◌, map, pos}
 use Rattle.mdr_core.specs.declared.kind.Kind.TheVariants.{U32}
+use Rattle.mdr_core.specs.declared.place.At.{At}
+use Rattle.mdr_meaning.specs.declared.shape.Shape64.{Shape64}
 use Rattle.mdr_meaning.specs.declared.wire.Wire.{Wire}
 use Rattle.mdr_meaning.specs.declared.wire.Wire.TheVariants as wire
+use Rattle.mdr_model.specs.declared.message.New.{New}
 use Rattle.mdr_model.specs.declared.message.SetRun.{SetRun}
 use Rattle.mdr_model.specs.declared.message.Told.{Told}
 use Rattle.mdr_model.specs.declared.message.Run.{Run}
 use Rattle.mdr_model.specs.declared.message.Message.{Message}
 use Rattle.mdr_model.specs.declared.message.Message.TheVariants as message
+use Rattle.mdr_model.specs.declared.reply.Reply.TheVariants as replies
 use Rattle.mdr_model.specs.Text.{text}
 
 abbrev pub u32_value : ℕ → Wire
@@ -26,22 +30,47 @@ count_is n = record { serial = 0; first = 0; values = u32_value n ∷ [] } ∷ [
 abbrev pub count_told : List Run → Told
 count_told runs = record { deaths = []; news = []; view = count_view; runs = runs }
 
+-- ---- messages, by their fields in order
+
+abbrev pub call_message : (func depth rest : ℕ) → List Wire → Told → Message
+call_message func depth rest args told = message.Call (record { func = func; depth = depth; rest = rest; args = args; told = told })
+
+abbrev pub back_message : (rest : ℕ) → Wire → Told → Message
+back_message rest result told = message.Back (record { rest = rest; result = result; told = told })
+
+abbrev pub answer_message : List Wire → (deaths : List ℕ) → List New → Message
+answer_message results deaths news = message.Answer (record { results = results; deaths = deaths; news = news })
+
+abbrev pub return_message : (ticks : ℕ) → Wire → List Run → Message
+return_message ticks result runs = message.Reply (replies.Return (record { ticks = ticks; result = result; runs = runs }))
+
+abbrev pub down_message : (ticks : ℕ) → At → (depth func : ℕ) → List Wire → List Run → Message
+down_message ticks at depth func args runs =
+    message.Reply (replies.Down (record { ticks = ticks; at = at; depth = depth; func = func; args = args; runs = runs }))
+
+-- no bytes come with the question
+abbrev pub ask_message : (ticks : ℕ) → At → (service : ℕ) → List Wire → List Shape64 → List Run → Message
+ask_message ticks at service args shapes runs =
+    message.Reply (replies.Ask (record { ticks = ticks; at = at; service = service; args = args; shapes = shapes; bytes = []; runs = runs }))
+
+-- ---- the messages of a run
+
 -- four messages of a kernel half
 abbrev pub bump_sent : List Message
 bump_sent =
-    message.Call 1 0 1000000 [] (count_told [])
-    ∷ message.Back 999998 wire.NoValue (count_told (count_is 1))
-    ∷ message.Answer [] [] []
-    ∷ message.Back 999995 wire.NoValue (count_told (count_is 2))
+    call_message 1 0 1000000 [] (count_told [])
+    ∷ back_message 999998 wire.NoValue (count_told (count_is 1))
+    ∷ answer_message [] [] []
+    ∷ back_message 999995 wire.NoValue (count_told (count_is 2))
     ∷ []
 
 -- and the answers to them
 abbrev pub bump_answers : List Message
 bump_answers =
-    message.Down 1 (record { func = 1; stmt = 1 }) 1 0 [] []
-    ∷ message.Ask 1 (record { func = 1; stmt = 2 }) 5 (u32_value 1 ∷ u32_value 4 ∷ []) [] [] []
-    ∷ message.Down 1 (record { func = 1; stmt = 3 }) 1 0 [] []
-    ∷ message.Return 0 wire.NoValue []
+    down_message 1 (record { func = 1; stmt = 1 }) 1 0 [] []
+    ∷ ask_message 1 (record { func = 1; stmt = 2 }) 5 (u32_value 1 ∷ u32_value 4 ∷ []) [] []
+    ∷ down_message 1 (record { func = 1; stmt = 3 }) 1 0 [] []
+    ∷ return_message 0 wire.NoValue []
     ∷ []
 
 -- a number in four bytes

@@ -8,6 +8,7 @@ mod memory;
 mod message;
 mod outcome;
 mod reply;
+mod stops;
 mod worked;
 mod worked_copies;
 
@@ -18,9 +19,10 @@ pub use laws::{
 };
 pub use mdr_meaning::{Shape64, Wire, WireView};
 pub use memory::{Cell, MemoryBlock};
-pub use message::{BirthKind, Fault, Message, New, Run, SetRun, Told};
+pub use message::{Answer, Back, BirthKind, Call, Fault, Message, New, Run, SetRun, Told};
 pub use outcome::{End, Happened, Object, Seen};
-pub use reply::Reply;
+pub use reply::{Ask, Down, Reply, Return, Stop};
+pub use stops::{stop_number, user_stop};
 pub use worked::bump_messages_are_spelled;
 pub use worked_copies::{
     a_cycle_and_its_deaths_are_told, deaths_rise_in_whatever_order_blocks_were_told,

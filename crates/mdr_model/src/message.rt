@@ -1,7 +1,8 @@
 // The messages between the halves.
 
-use mdr_core::{At, Items, RefuseKind};
-use mdr_meaning::{Shape64, Wire};
+use crate::reply::Reply;
+use mdr_core::{Items, RefuseKind};
+use mdr_meaning::Wire;
 
 /// How a block was born.
 #[derive(Clone, Copy, Debug)]
@@ -49,66 +50,41 @@ pub struct Told {
     pub runs: Items<Run>,
 }
 
-/// A message. `Call`, `Back` and `Answer` go to the user half, all others to the kernel half. In those,
-/// `ticks` are the user half's ticks since the last message that it got; `rest` is what the budget leaves.
+/// An upcall of a function, with the functions that are active before it; `rest` is what the budget leaves.
+#[derive(Debug, Drop)]
+pub struct Call {
+    pub func: u32,
+    pub depth: u32,
+    pub rest: u64,
+    pub args: Items<Wire>,
+    pub told: Told,
+}
+
+/// A downcall's function returned; `rest` is what the budget leaves.
+#[derive(Debug, Drop)]
+pub struct Back {
+    pub rest: u64,
+    pub result: Wire,
+    pub told: Told,
+}
+
+/// A service's results, the blocks that died, and those that are new. It tells no cells.
+#[derive(Debug, Drop)]
+pub struct Answer {
+    pub results: Items<Wire>,
+    pub deaths: Items<u64>,
+    pub news: Items<New>,
+}
+
+/// A message. `Call`, `Back` and `Answer` go to the user half, all others to the kernel half.
 #[derive(Debug, Drop)]
 pub enum Message {
-    /// An upcall of a function, with the functions that are active before it.
-    Call {
-        func: u32,
-        depth: u32,
-        rest: u64,
-        args: Items<Wire>,
-        told: Told,
-    },
-    /// The upcall's function returned.
-    Return {
-        ticks: u64,
-        result: Wire,
-        runs: Items<Run>,
-    },
-    /// A downcall of a function, from a place, with the functions that are active before it.
-    Down {
-        ticks: u64,
-        at: At,
-        depth: u32,
-        func: u32,
-        args: Items<Wire>,
-        runs: Items<Run>,
-    },
-    /// The downcall's function returned.
-    Back {
-        rest: u64,
-        result: Wire,
-        told: Told,
-    },
-    /// A service is asked for, from a place.
-    Ask {
-        ticks: u64,
-        at: At,
-        service: u32,
-        args: Items<Wire>,
-        shapes: Items<Shape64>,
-        bytes: Items<u8>,
-        runs: Items<Run>,
-    },
-    /// The service's results, the blocks that died, and those that are new. It tells no cells.
-    Answer {
-        results: Items<Wire>,
-        deaths: Items<u64>,
-        news: Items<New>,
-    },
-    /// User code stopped, by the stop's number.
-    Stop {
-        ticks: u64,
-        stop: u32,
-        at: At,
-        runs: Items<Run>,
-    },
+    Call(Call),
+    Back(Back),
+    Answer(Answer),
+    Reply(Reply),
     /// The last message was refused: 1 it is no message, 2 its kind isn't awaited, 3 its content doesn't fit.
-    Refuse {
-        reason: u32,
-    },
+    Refuse(u32),
 }
 
 /// Why bytes are no message, or a message no legal reply: the cause, and its offset or position.

@@ -6,104 +6,45 @@ use Rattle.std.proofs.lemmas.List.{append-nil, nil_from_length}
 use Rattle.mdr_core.specs.declared.refusal.RefuseKind.TheVariants as refusal
 use Rattle.mdr_model.specs.declared.message.Message.{Message}
 use Rattle.mdr_model.specs.declared.message.Message.TheVariants as message
+use Rattle.mdr_model.specs.declared.reply.Reply.TheVariants as replies
 use Rattle.mdr_model.specs.declared.message.Fault.{Fault}
 use Rattle.mdr_model.specs.Faults.{fault}
 use Rattle.mdr_model.specs.Xdr.{Input, Read, ◌>>=◌, four, four_at}
-use Rattle.mdr_model.specs.Text.{text}
-use Rattle.mdr_model.specs.Reading.{call_at, return_at, down_at, back_at, ask_at, answer_at, stop_at, refuse_at, message_by, message_at, reading_of}
+use Rattle.mdr_model.specs.Text.{reply_text, text}
+use Rattle.mdr_model.specs.Reading.{made, message_by, message_at, reading_of}
 use Rattle.mdr_xdr.specs.Bytes.{IsBytes}
 use Rattle.mdr_xdr.proofs.Readers.{bind_ok, holds_ok, input_is, from, IsReader}
-use Rattle.mdr_xdr.proofs.Numbers.{four_reader, eight_reader}
-use Rattle.mdr_xdr.proofs.Opaque.{opaque_reader}
-use Rattle.mdr_xdr.proofs.Sequences.{TakesSome, then_takes, last_takes, Again, then_again, last_again, IsText, made_reader, list_reader, fault_takes, cond_takes, chosen_takes, chosen_again}
+use Rattle.mdr_xdr.proofs.Numbers.{four_reader}
+use Rattle.mdr_xdr.proofs.Sequences.{TakesSome, last_takes, Again, last_again, IsText, made_reader, fault_takes, cond_takes, chosen_takes, chosen_again}
 use Rattle.std.specs.Prelude.{IfOk}
 use Rattle.mdr_msg.specs.declared.error.MsgError.{MsgError}
 use Rattle.mdr_msg.specs.Decoding.{Reads}
 use Rattle.mdr_msg.specs.WellFormed.{IsMessage}
-use Rattle.mdr_msg.proofs.Fields.{value_reader, place_reader, new_reader, run_reader, shape_reader, told_reader}
+use Rattle.mdr_msg.proofs.PayloadReaders.{call_reader, return_reader, down_reader, back_reader, ask_reader, answer_reader, stop_reader}
 
 -- behind a kind, the rest of a message's text
 abbrev IsBehind : ℕ → List ℕ → Message → Type 0
 IsBehind kind t m = IsText text IsMessage (four kind ++ t) m
 
-call_takes : TakesSome call_at (IsBehind 1)
-unfolding call_at text
-call_takes =
-    then_takes _ four_reader (λ func h0.
-    then_takes _ four_reader (λ depth h1.
-    then_takes _ eight_reader (λ rest h2.
-    then_takes _ (list_reader value_reader) (λ args h3.
-    last_takes _ told_reader (λ told h4. record { is = refl; fits = (h0, h1, h2, h3, h4) })))))
-
-return_takes : TakesSome return_at (IsBehind 2)
-unfolding return_at text
-return_takes =
-    then_takes _ eight_reader (λ ticks h0.
-    then_takes _ value_reader (λ value h1.
-    last_takes _ (list_reader run_reader) (λ runs h2. record { is = refl; fits = (h0, h1, h2) })))
-
-down_takes : TakesSome down_at (IsBehind 3)
-unfolding down_at text
-down_takes =
-    then_takes _ eight_reader (λ ticks h0.
-    then_takes _ place_reader (λ at h1.
-    then_takes _ four_reader (λ depth h2.
-    then_takes _ four_reader (λ func h3.
-    then_takes _ (list_reader value_reader) (λ args h4.
-    last_takes _ (list_reader run_reader) (λ runs h5. record { is = refl; fits = (h0, h1, h2, h3, h4, h5) }))))))
-
-back_takes : TakesSome back_at (IsBehind 4)
-unfolding back_at text
-back_takes =
-    then_takes _ eight_reader (λ rest h0.
-    then_takes _ value_reader (λ value h1.
-    last_takes _ told_reader (λ told h2. record { is = refl; fits = (h0, h1, h2) })))
-
-ask_takes : TakesSome ask_at (IsBehind 5)
-unfolding ask_at text
-ask_takes =
-    then_takes _ eight_reader (λ ticks h0.
-    then_takes _ place_reader (λ at h1.
-    then_takes _ four_reader (λ service h2.
-    then_takes _ (list_reader value_reader) (λ args h3.
-    then_takes _ (list_reader shape_reader) (λ shapes h4.
-    then_takes _ opaque_reader (λ bytes h5.
-    last_takes _ (list_reader run_reader) (λ runs h6. record { is = refl; fits = (h0, h1, h2, h3, h4, h5, h6) })))))))
-
-answer_takes : TakesSome answer_at (IsBehind 6)
-unfolding answer_at text
-answer_takes =
-    then_takes _ (list_reader value_reader) (λ results h0.
-    then_takes _ (list_reader eight_reader) (λ deaths h1.
-    last_takes _ (list_reader new_reader) (λ news h2. record { is = refl; fits = (h0, h1, h2) })))
-
-stop_takes : TakesSome stop_at (IsBehind 7)
-unfolding stop_at text
-stop_takes =
-    then_takes _ eight_reader (λ ticks h0.
-    then_takes _ four_reader (λ stop h1.
-    then_takes _ place_reader (λ at h2.
-    last_takes _ (list_reader run_reader) (λ runs h3. record { is = refl; fits = (h0, h1, h2, h3) }))))
-
-refuse_takes : TakesSome refuse_at (IsBehind 8)
-unfolding refuse_at text
-refuse_takes =
-    last_takes _ four_reader (λ reason h0. record { is = refl; fits = h0 })
+-- a payload behind its kind is a message
+payload_takes : {A : Type 0} {reader : Input → Read A} {spelled : A → List ℕ} {Fits : A → Type 0} (kind : ℕ) (make : A → Message)
+    → IsReader reader spelled Fits → ((payload : A) → Fits payload → IsBehind kind (spelled payload) (make payload)) → TakesSome (made make reader) (IsBehind kind)
+payload_takes kind make reader is = last_takes make reader is
 
 at_kind : {r : Input → Read Message} (kind n : ℕ) → (kind == n) ≡ true → TakesSome r (IsBehind n) → TakesSome r (IsBehind kind)
 at_kind {r} kind n e h = subst (λ (k : ℕ). TakesSome r (IsBehind k)) (sym (eqb-true kind n e)) h
 
 message_takes : (kind at : ℕ) → TakesSome (message_by kind at) (IsBehind kind)
-unfolding message_by
+unfolding message_by text reply_text
 message_takes kind at =
-    cond_takes (kind == 1) (λ e. at_kind kind 1 e call_takes) (λ _.
-    cond_takes (kind == 2) (λ e. at_kind kind 2 e return_takes) (λ _.
-    cond_takes (kind == 3) (λ e. at_kind kind 3 e down_takes) (λ _.
-    cond_takes (kind == 4) (λ e. at_kind kind 4 e back_takes) (λ _.
-    cond_takes (kind == 5) (λ e. at_kind kind 5 e ask_takes) (λ _.
-    cond_takes (kind == 6) (λ e. at_kind kind 6 e answer_takes) (λ _.
-    cond_takes (kind == 7) (λ e. at_kind kind 7 e stop_takes) (λ _.
-    cond_takes (kind == 8) (λ e. at_kind kind 8 e refuse_takes) (λ _.
+    cond_takes (kind == 1) (λ e. at_kind kind 1 e (payload_takes 1 (λ call. message.Call call) call_reader (λ call h. record { is = refl; fits = h }))) (λ _.
+    cond_takes (kind == 2) (λ e. at_kind kind 2 e (payload_takes 2 (λ return. message.Reply (replies.Return return)) return_reader (λ return h. record { is = refl; fits = h }))) (λ _.
+    cond_takes (kind == 3) (λ e. at_kind kind 3 e (payload_takes 3 (λ down. message.Reply (replies.Down down)) down_reader (λ down h. record { is = refl; fits = h }))) (λ _.
+    cond_takes (kind == 4) (λ e. at_kind kind 4 e (payload_takes 4 (λ back. message.Back back) back_reader (λ back h. record { is = refl; fits = h }))) (λ _.
+    cond_takes (kind == 5) (λ e. at_kind kind 5 e (payload_takes 5 (λ ask. message.Reply (replies.Ask ask)) ask_reader (λ ask h. record { is = refl; fits = h }))) (λ _.
+    cond_takes (kind == 6) (λ e. at_kind kind 6 e (payload_takes 6 (λ answer. message.Answer answer) answer_reader (λ answer h. record { is = refl; fits = h }))) (λ _.
+    cond_takes (kind == 7) (λ e. at_kind kind 7 e (payload_takes 7 (λ stop. message.Reply (replies.Stop stop)) stop_reader (λ stop h. record { is = refl; fits = h }))) (λ _.
+    cond_takes (kind == 8) (λ e. at_kind kind 8 e (payload_takes 8 (λ reason. message.Refuse reason) four_reader (λ reason h. record { is = refl; fits = h }))) (λ _.
     fault_takes (fault refusal.Kind at)))))))))
 
 abbrev next : ℕ → ℕ × Input → Read Message
@@ -115,14 +56,14 @@ unfolding message_at
 behind kind m more lt h is = subst (λ (t : List ℕ). Again (λ i. four_at i >>= next i.at) m t) is (chosen_again next four_reader kind lt h)
 
 message_again : (m : Message) → IsMessage m → Again message_at m (text m)
-unfolding message_by text call_at return_at down_at back_at ask_at answer_at stop_at refuse_at
-message_again (message.Call func depth rest args told) h = behind 1 (message.Call func depth rest args told) _ (omega arith) (λ offset. then_again _ four_reader func h.0 (then_again _ four_reader depth h.1 (then_again _ eight_reader rest h.2 (then_again _ (list_reader value_reader) args h.3 (last_again _ told_reader told h.4))))) refl
-message_again (message.Return ticks value runs) h = behind 2 (message.Return ticks value runs) _ (omega arith) (λ offset. then_again _ eight_reader ticks h.0 (then_again _ value_reader value h.1 (last_again _ (list_reader run_reader) runs h.2))) refl
-message_again (message.Down ticks at depth func args runs) h = behind 3 (message.Down ticks at depth func args runs) _ (omega arith) (λ offset. then_again _ eight_reader ticks h.0 (then_again _ place_reader at h.1 (then_again _ four_reader depth h.2 (then_again _ four_reader func h.3 (then_again _ (list_reader value_reader) args h.4 (last_again _ (list_reader run_reader) runs h.5)))))) refl
-message_again (message.Back rest value told) h = behind 4 (message.Back rest value told) _ (omega arith) (λ offset. then_again _ eight_reader rest h.0 (then_again _ value_reader value h.1 (last_again _ told_reader told h.2))) refl
-message_again (message.Ask ticks at service args shapes bytes runs) h = behind 5 (message.Ask ticks at service args shapes bytes runs) _ (omega arith) (λ offset. then_again _ eight_reader ticks h.0 (then_again _ place_reader at h.1 (then_again _ four_reader service h.2 (then_again _ (list_reader value_reader) args h.3 (then_again _ (list_reader shape_reader) shapes h.4 (then_again _ opaque_reader bytes h.5 (last_again _ (list_reader run_reader) runs h.6))))))) refl
-message_again (message.Answer results deaths news) h = behind 6 (message.Answer results deaths news) _ (omega arith) (λ offset. then_again _ (list_reader value_reader) results h.0 (then_again _ (list_reader eight_reader) deaths h.1 (last_again _ (list_reader new_reader) news h.2))) refl
-message_again (message.Stop ticks stop at runs) h = behind 7 (message.Stop ticks stop at runs) _ (omega arith) (λ offset. then_again _ eight_reader ticks h.0 (then_again _ four_reader stop h.1 (then_again _ place_reader at h.2 (last_again _ (list_reader run_reader) runs h.3)))) refl
+unfolding message_by text reply_text
+message_again (message.Call call) h = behind 1 (message.Call call) _ (omega arith) (λ offset. last_again _ call_reader call h) refl
+message_again (message.Reply (replies.Return return)) h = behind 2 (message.Reply (replies.Return return)) _ (omega arith) (λ offset. last_again _ return_reader return h) refl
+message_again (message.Reply (replies.Down down)) h = behind 3 (message.Reply (replies.Down down)) _ (omega arith) (λ offset. last_again _ down_reader down h) refl
+message_again (message.Back back) h = behind 4 (message.Back back) _ (omega arith) (λ offset. last_again _ back_reader back h) refl
+message_again (message.Reply (replies.Ask ask)) h = behind 5 (message.Reply (replies.Ask ask)) _ (omega arith) (λ offset. last_again _ ask_reader ask h) refl
+message_again (message.Answer answer) h = behind 6 (message.Answer answer) _ (omega arith) (λ offset. last_again _ answer_reader answer h) refl
+message_again (message.Reply (replies.Stop stop)) h = behind 7 (message.Reply (replies.Stop stop)) _ (omega arith) (λ offset. last_again _ stop_reader stop h) refl
 message_again (message.Refuse reason) h = behind 8 (message.Refuse reason) _ (omega arith) (λ offset. last_again _ four_reader reason h) refl
 
 pub message_reader : IsReader message_at text IsMessage

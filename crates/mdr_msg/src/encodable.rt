@@ -2,10 +2,10 @@
 
 ghost use Rattle.std.specs.Prelude.{◌↔◌, IsTrue};
 ghost use Rattle.std.specs.List.{AllByRecursion};
-ghost use Rattle.mdr_msg.specs.Encoding.{CanEncode, CanPutRun, CanPutRuns, CanPutTold, CanPutValue, CanPutValues, IsShort};
+ghost use Rattle.mdr_msg.specs.Encoding.{CanEncode, CanPutAnswer, CanPutAsk, CanPutReply, CanPutRun, CanPutRuns, CanPutTold, CanPutValue, CanPutValues, IsShort};
 
 use mdr_core::Items;
-use mdr_model::{Message, Run, Told, Wire};
+use mdr_model::{Answer, Ask, Message, Reply, Run, Told, Wire};
 
 fn is_short<T>(items: &Items<T>) -> bool
     ensures { IsTrue result ↔ IsShort items.now }
@@ -56,37 +56,42 @@ fn can_put_told(told: &Told) -> bool
         && can_put_runs(&told.runs)
 }
 
+fn can_put_ask(ask: &Ask) -> bool
+    ensures { IsTrue result ↔ CanPutAsk ask.now }
+{
+    can_put_values(&ask.args)
+        && is_short(&ask.shapes)
+        && is_short(&ask.bytes)
+        && can_put_runs(&ask.runs)
+}
+
+fn can_put_answer(answer: &Answer) -> bool
+    ensures { IsTrue result ↔ CanPutAnswer answer.now }
+{
+    can_put_values(&answer.results) && is_short(&answer.deaths) && is_short(&answer.news)
+}
+
+fn can_put_reply(reply: &Reply) -> bool
+    ensures { IsTrue result ↔ CanPutReply reply.now }
+{
+    match reply {
+        Reply::Return(returned) => can_put_value(&returned.result) && can_put_runs(&returned.runs),
+        Reply::Down(down) => can_put_values(&down.args) && can_put_runs(&down.runs),
+        Reply::Ask(ask) => can_put_ask(ask),
+        Reply::Stop(stop) => can_put_runs(&stop.runs),
+    }
+}
+
 /// Whether a message has a spelling that `encode` writes: each of its lists has fewer than 2^31 items, each integer
 /// is in its kind's range, and no value is a lock.
 pub fn can_encode(m: &Message) -> bool
     ensures { IsTrue result ↔ CanEncode m.now }
 {
     match m {
-        Message::Call { args, told, .. } => can_put_values(args) && can_put_told(told),
-        Message::Return {
-            result: value,
-            runs,
-            ..
-        } => can_put_value(value) && can_put_runs(runs),
-        Message::Down { args, runs, .. } => can_put_values(args) && can_put_runs(runs),
-        Message::Back {
-            result: value,
-            told,
-            ..
-        } => can_put_value(value) && can_put_told(told),
-        Message::Ask {
-            args,
-            shapes,
-            bytes,
-            runs,
-            ..
-        } => { can_put_values(args) && is_short(shapes) && is_short(bytes) && can_put_runs(runs) }
-        Message::Answer {
-            results,
-            deaths,
-            news,
-        } => can_put_values(results) && is_short(deaths) && is_short(news),
-        Message::Stop { runs, .. } => can_put_runs(runs),
-        Message::Refuse { .. } => true,
+        Message::Call(call) => can_put_values(&call.args) && can_put_told(&call.told),
+        Message::Back(back) => can_put_value(&back.result) && can_put_told(&back.told),
+        Message::Answer(answer) => can_put_answer(answer),
+        Message::Reply(reply) => can_put_reply(reply),
+        Message::Refuse(_) => true,
     }
 }

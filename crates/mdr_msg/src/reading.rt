@@ -1,153 +1,74 @@
-// Reading messages: the kind, and the fields in their order.
+// Reading messages: the kind, and the payload.
 
 ghost use Rattle.std.specs.Prelude.{◌≡◌, IfOk, Ok};
+ghost use Rattle.mdr_model.specs.declared.message.Message.TheVariants as message;
+ghost use Rattle.mdr_model.specs.declared.reply.Reply.TheVariants as replies;
 ghost use Rattle.mdr_model.specs.Text.{text};
 ghost use Rattle.mdr_msg.specs.WellFormed.{IsMessage};
-ghost use Rattle.mdr_model.specs.Xdr.{opaque_at};
-ghost use Rattle.mdr_model.specs.Reading.{call_at, return_at, down_at, back_at, ask_at, answer_at, stop_at, refuse_at, message_by, message_at, reading_of};
+ghost use Rattle.mdr_model.specs.Xdr.{four_at};
+ghost use Rattle.mdr_model.specs.Reading.{answer_at, ask_at, back_at, call_at, down_at, made, message_at, message_by, reading_of, return_at, stop_at};
 ghost use Rattle.mdr_msg.specs.Decoding.{Gives, Reads};
 
 use crate::error::MsgError;
 use crate::item::Item;
-use mdr_core::{At, Items};
-use mdr_model::{Message, New, Run, Shape64, Told, Wire};
+use mdr_model::{Answer, Ask, Back, Call, Down, Message, Reply, Return, Stop};
 use mdr_xdr::Cursor;
 use std::alloc::Global;
 
-/// Reads opaque bytes.
-fn get_bytes(alloc: Global, bytes: &[u8], c: &mut Cursor) -> Result<Items<u8>, MsgError>
-    ensures { Gives bytes.now c.old.at c.new.at result opaque_at }
-{
-    match mdr_xdr::get_opaque(bytes, c) {
-        Ok(opaque) => Ok(Items::from_slice(alloc, opaque)?),
-        Err(e) => Err(MsgError::from(e)),
-    }
-}
-
-#[tactic(auto, unfolding(mdr_model::specs::Reading::call_at))]
 fn get_call(alloc: Global, bytes: &[u8], c: &mut Cursor) -> Result<Message, MsgError>
-    ensures { Gives bytes.now c.old.at c.new.at result call_at }
+    ensures { Gives bytes.now c.old.at c.new.at result (made (λ call. message.Call call) call_at) }
 {
-    let func = u32::get(alloc, bytes, c)?;
-    let depth = u32::get(alloc, bytes, c)?;
-    let rest = u64::get(alloc, bytes, c)?;
-    let args = Items::<Wire>::get(alloc, bytes, c)?;
-    let told = Told::get(alloc, bytes, c)?;
-    Ok(Message::Call {
-        func,
-        depth,
-        rest,
-        args,
-        told,
-    })
+    let call = Call::get(alloc, bytes, c)?;
+    Ok(Message::Call(call))
 }
 
-#[tactic(auto, unfolding(mdr_model::specs::Reading::return_at))]
 fn get_return(alloc: Global, bytes: &[u8], c: &mut Cursor) -> Result<Message, MsgError>
-    ensures { Gives bytes.now c.old.at c.new.at result return_at }
+    ensures { Gives bytes.now c.old.at c.new.at result (made (λ return. message.Reply (replies.Return return)) return_at) }
 {
-    let ticks = u64::get(alloc, bytes, c)?;
-    let value = Wire::get(alloc, bytes, c)?;
-    let runs = Items::<Run>::get(alloc, bytes, c)?;
-    Ok(Message::Return {
-        ticks,
-        result: value,
-        runs,
-    })
+    let returned = Return::get(alloc, bytes, c)?;
+    Ok(Message::Reply(Reply::Return(returned)))
 }
 
-#[tactic(auto, unfolding(mdr_model::specs::Reading::down_at))]
 fn get_down(alloc: Global, bytes: &[u8], c: &mut Cursor) -> Result<Message, MsgError>
-    ensures { Gives bytes.now c.old.at c.new.at result down_at }
+    ensures { Gives bytes.now c.old.at c.new.at result (made (λ down. message.Reply (replies.Down down)) down_at) }
 {
-    let ticks = u64::get(alloc, bytes, c)?;
-    let at = At::get(alloc, bytes, c)?;
-    let depth = u32::get(alloc, bytes, c)?;
-    let func = u32::get(alloc, bytes, c)?;
-    let args = Items::<Wire>::get(alloc, bytes, c)?;
-    let runs = Items::<Run>::get(alloc, bytes, c)?;
-    Ok(Message::Down {
-        ticks,
-        at,
-        depth,
-        func,
-        args,
-        runs,
-    })
+    let down = Down::get(alloc, bytes, c)?;
+    Ok(Message::Reply(Reply::Down(down)))
 }
 
-#[tactic(auto, unfolding(mdr_model::specs::Reading::back_at))]
 fn get_back(alloc: Global, bytes: &[u8], c: &mut Cursor) -> Result<Message, MsgError>
-    ensures { Gives bytes.now c.old.at c.new.at result back_at }
+    ensures { Gives bytes.now c.old.at c.new.at result (made (λ back. message.Back back) back_at) }
 {
-    let rest = u64::get(alloc, bytes, c)?;
-    let value = Wire::get(alloc, bytes, c)?;
-    let told = Told::get(alloc, bytes, c)?;
-    Ok(Message::Back {
-        rest,
-        result: value,
-        told,
-    })
+    let back = Back::get(alloc, bytes, c)?;
+    Ok(Message::Back(back))
 }
 
-#[tactic(auto, unfolding(mdr_model::specs::Reading::ask_at))]
 fn get_ask(alloc: Global, bytes: &[u8], c: &mut Cursor) -> Result<Message, MsgError>
-    ensures { Gives bytes.now c.old.at c.new.at result ask_at }
+    ensures { Gives bytes.now c.old.at c.new.at result (made (λ ask. message.Reply (replies.Ask ask)) ask_at) }
 {
-    let ticks = u64::get(alloc, bytes, c)?;
-    let at = At::get(alloc, bytes, c)?;
-    let service = u32::get(alloc, bytes, c)?;
-    let args = Items::<Wire>::get(alloc, bytes, c)?;
-    let shapes = Items::<Shape64>::get(alloc, bytes, c)?;
-    let opaque = get_bytes(alloc, bytes, c)?;
-    let runs = Items::<Run>::get(alloc, bytes, c)?;
-    Ok(Message::Ask {
-        ticks,
-        at,
-        service,
-        args,
-        shapes,
-        bytes: opaque,
-        runs,
-    })
+    let ask = Ask::get(alloc, bytes, c)?;
+    Ok(Message::Reply(Reply::Ask(ask)))
 }
 
-#[tactic(auto, unfolding(mdr_model::specs::Reading::answer_at))]
 fn get_answer(alloc: Global, bytes: &[u8], c: &mut Cursor) -> Result<Message, MsgError>
-    ensures { Gives bytes.now c.old.at c.new.at result answer_at }
+    ensures { Gives bytes.now c.old.at c.new.at result (made (λ answer. message.Answer answer) answer_at) }
 {
-    let results = Items::<Wire>::get(alloc, bytes, c)?;
-    let deaths = Items::<u64>::get(alloc, bytes, c)?;
-    let news = Items::<New>::get(alloc, bytes, c)?;
-    Ok(Message::Answer {
-        results,
-        deaths,
-        news,
-    })
+    let answer = Answer::get(alloc, bytes, c)?;
+    Ok(Message::Answer(answer))
 }
 
-#[tactic(auto, unfolding(mdr_model::specs::Reading::stop_at))]
 fn get_stop(alloc: Global, bytes: &[u8], c: &mut Cursor) -> Result<Message, MsgError>
-    ensures { Gives bytes.now c.old.at c.new.at result stop_at }
+    ensures { Gives bytes.now c.old.at c.new.at result (made (λ stop. message.Reply (replies.Stop stop)) stop_at) }
 {
-    let ticks = u64::get(alloc, bytes, c)?;
-    let stop = u32::get(alloc, bytes, c)?;
-    let at = At::get(alloc, bytes, c)?;
-    let runs = Items::<Run>::get(alloc, bytes, c)?;
-    Ok(Message::Stop {
-        ticks,
-        stop,
-        at,
-        runs,
-    })
+    let stop = Stop::get(alloc, bytes, c)?;
+    Ok(Message::Reply(Reply::Stop(stop)))
 }
 
-#[tactic(auto, unfolding(mdr_model::specs::Reading::refuse_at))]
 fn get_refuse(alloc: Global, bytes: &[u8], c: &mut Cursor) -> Result<Message, MsgError>
-    ensures { Gives bytes.now c.old.at c.new.at result refuse_at }
+    ensures { Gives bytes.now c.old.at c.new.at result (made (λ reason. message.Refuse reason) four_at) }
 {
     let reason = u32::get(alloc, bytes, c)?;
-    Ok(Message::Refuse { reason })
+    Ok(Message::Refuse(reason))
 }
 
 /// Reads what follows a message's kind, which stands at an offset.

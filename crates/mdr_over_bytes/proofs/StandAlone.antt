@@ -1,5 +1,5 @@
 -- A legal reply with its end cut off is no legal reply, nor is one with bytes added.
-use Rattle.std.proofs.Common.{◌≡◌, ℕ, List, ◌++◌, Option, Some, None, Ok, Err, refl}
+use Rattle.std.proofs.Common.{◌≡◌, ℕ, List, ◌++◌, Ok, Err, refl}
 use Rattle.mdr_model.specs.declared.message.Message.{Message}
 use Rattle.mdr_model.specs.KernelState.{Reading}
 use Rattle.mdr_msg.proofs.Prefixes.{stands_alone}

@@ -16,6 +16,7 @@ use Rattle.mdr_meaning.specs.Within.{Uses}
 use Rattle.mdr_meaning.proofs.FuelLaws.{started_fuel_is_no_matter}
 use Rattle.mdr_model.specs.declared.command.Command.{Command}
 use Rattle.mdr_model.specs.declared.memory.Cell.{Cell}
+use Rattle.mdr_model.specs.declared.message.Call.{Call}
 use Rattle.mdr_model.specs.declared.message.Message.TheVariants as message
 use Rattle.mdr_model.specs.declared.message.Told.{Told}
 use Rattle.mdr_model.specs.declared.outcome.End.TheVariants as ends
@@ -36,10 +37,13 @@ use Rattle.mdr_serves.proofs.Messages
 use Rattle.mdr_serves.proofs.Relations.{Agree, IsPaid, IsRight, grows_same, learns, learns_grows, open_of, owing, telling, waiting}
 use Rattle.mdr_serves.proofs.Runs.{AreServed, Finishes, GoesOn, goes_on_grown, is_over, one_more, paid_less, reply_of, user_at}
 
+abbrev call_of : (func depth : ℕ) → World → List Wire → Told → Call
+call_of f depth w args told = record { func = f; depth = depth; rest = w.clock.rest; args = args; told = told }
+
 -- the user half accepts a call
 deliver_call : (d : Driver) (uses : Uses) (fuel budget f : ℕ) (func : Func) (K KU : Knowledge) (objects : List Wire) (copy : Memory) (w : World) (e depth : ℕ) (args : List Wire) (told : Told) (below : List Below)
     → is_user d.plan f ≡ true → is_deeper below depth ≡ true → depth ≤ 255 → Messages.Called d uses budget f func K KU objects copy w e args told
-    → deliver d fuel (user_at copy objects below) (Ok (message.Call f depth w.clock.rest args told))
+    → deliver d fuel (user_at copy objects below) (Ok (message.Call (call_of f depth w args told)))
     ≡ reply_of f objects (waiting d told copy w e) w below (agreed_after d.program told copy) w.clock.rest (started d.user fuel f args depth Tree.Idle)
 unfolding deliver opens call_fits
 deliver_call d uses fuel budget f func K KU objects copy w e depth args told [] user deeper limited m =
@@ -73,7 +77,7 @@ module _ (d : Driver) (uses : Uses) (right : IsRight d uses) (fuel budget : ℕ)
       let tree : Tree = started d.user fuel f args depth Tree.Idle in
       let ticks : w.clock.rest < fuel = omega (arith, a.total, enough) in
       let KU' : Knowledge = learns KU told.news in
-      one_more (message.Call f depth w.clock.rest args told) k' (open_of f depth []) rest script (user_at k.agreed outer below) (reply_of f outer k' w' below (agreed_after d.program told k.agreed) w'.clock.rest tree) (later all)
+      one_more (message.Call (call_of f depth w args told)) k' (open_of f depth []) rest script (user_at k.agreed outer below) (reply_of f outer k' w' below (agreed_after d.program told k.agreed) w'.clock.rest tree) (later all)
       (deliver_call d uses fuel budget f func K KU outer k.agreed w' e depth args told below user deeper limited m)
       (omega (arith, a.total))
       (served f func args depth limited room names user K KU' m.rel.uses_are m.rel.globals m.fit script outer rest below reserve all later

@@ -17,6 +17,7 @@ use Rattle.mdr_meaning.specs.Within.{Uses}
 use Rattle.mdr_meaning.specs.Fair.{stands}
 use Rattle.mdr_meaning.specs.Sides.{Body}
 use Rattle.mdr_model.proofs.AgreedReplies.{replied, reply_user, reply_whole}
+use Rattle.mdr_model.specs.declared.reply.Reply.{Reply}
 use Rattle.mdr_model.specs.declared.reply.Reply.TheVariants as replies
 use Rattle.mdr_model.specs.Agreement.{IsAgreed}
 use Rattle.mdr_model.specs.ReplyFaults.{user_stop}
@@ -37,10 +38,26 @@ use Rattle.mdr_serves.proofs.Relations.{Agree, known_by, IsRight, IsUserStop, Is
 use Rattle.mdr_serves.proofs.Strict.{IsStatement}
 use Rattle.mdr_split.specs.Kernel.{applied}
 use Rattle.mdr_split.specs.Legal.{fault_of, has_down_stub, is_object_service}
+use Rattle.mdr_split.specs.Services.{ask_of, asked_now}
 use Rattle.mdr_split.specs.State.{Kernel, Open, Rest}
 use Rattle.mdr_watched.specs.Driver.{Driver}
 
--- storing it gives the whole run's state
+-- ---- honest replies
+
+abbrev pub honest_return : Kernel → World → (um : Memory) → Wire → Reply
+honest_return k w um v = replies.Return (record { ticks = used k w; result = normal um v; runs = told_runs k w um })
+
+abbrev pub honest_stop : Kernel → World → (um : Memory) → (number : ℕ) → At → Reply
+honest_stop k w um number at = replies.Stop (record { ticks = used k w; stop = number; at = at; runs = told_runs k w um })
+
+abbrev pub honest_ask : Kernel → World → (um : Memory) → Asked → Reply
+honest_ask k w um asked = replies.Ask (ask_of (used k w) (asked_now um asked) (told_runs k w um))
+
+abbrev pub honest_down : Kernel → World → (um : Memory) → At → (func : ℕ) → List Wire → (depth : ℕ) → Reply
+honest_down k w um at f args depth =
+    replies.Down (record { ticks = used k w; at = at; depth = depth; func = f; args = map (normal um) args; runs = told_runs k w um })
+
+-- storing one gives the whole run's state
 pub stores_reply : {K : Knowledge} (d : Driver) (uses : Uses) (budget t : ℕ) (KU : Knowledge) (live : List Wire) (k : Kernel) (w : World) (um : Memory) → Rel d uses budget t K KU live k w um
     → applied (used k w) (told_runs k w um) k ≡ resumed k w um
 unfolding applied
@@ -115,7 +132,7 @@ module _ {d : Driver} {uses : Uses} {budget t : ℕ} {K KU : Knowledge} {objects
 
   -- of an upcall in which no object lives
   pub legal_return : (depth : ℕ) (func : Func) (v : Wire) (rest : Rest) → slice_get d.program.funcs t ≡ Some func → IsResult d.program KU func.result v
-      → fault_of d k (open_of t depth []) rest (replies.Return (used k w) (normal um v) (told_runs k w um)) ≡ None
+      → fault_of d k (open_of t depth []) rest (honest_return k w um v) ≡ None
   unfolding fault_of
   legal_return depth func v rest names fits =
       let result : fits_result (kernel_places d k) (result_of (slice_get d.program.funcs t)) (normal um v) ≡ true =
@@ -123,14 +140,14 @@ module _ {d : Driver} {uses : Uses} {budget t : ℕ} {K KU : Knowledge} {objects
       rw (ticks_legal, result, runs_legal) refl
 
   pub legal_stop : (upcall : Open) (kind : StopKind) (at : At) (rest : Rest) → IsStatement d.user at → IsUserStop kind
-      → fault_of d k upcall rest (replies.Stop (used k w) (stop_number kind) at (told_runs k w um)) ≡ None
+      → fault_of d k upcall rest (honest_stop k w um (stop_number kind) at) ≡ None
   unfolding fault_of
   legal_stop upcall kind at rest place own =
       let there : is_none (user_stop (stop_number kind)) ≡ false = ap (λ (o : Option StopKind). is_none o) own.told in
       rw (ticks_legal, statement at place, there, own.no_ticks, runs_legal) refl
 
   pub legal_ticks : (upcall : Open) (at : At) (rest : Rest) → IsStatement d.user at → w.clock.rest ≡ 0
-      → fault_of d k upcall rest (replies.Stop (used k w) 16 at (told_runs k w um)) ≡ None
+      → fault_of d k upcall rest (honest_stop k w um 16 at) ≡ None
   unfolding fault_of user_stop
   legal_ticks upcall at rest place none =
       let all : (used k w == k.world.clock.rest) ≡ true = ap (λ (n : ℕ). k.world.clock.rest - n == k.world.clock.rest) none ∙ eq-eqb _ _ (omega arith) in
@@ -140,10 +157,10 @@ module _ {d : Driver} {uses : Uses} {budget t : ℕ} {K KU : Knowledge} {objects
   pub legal_ask : (depth : ℕ) (live remains : List Wire) (asked : Asked) (s : Service) (credit : ℕ) (rest : Rest) → AreObjects w.memory 0 live
       → IsPlace d.user asked.at → IsStatement d.user asked.at ⊎ (is_object_service asked.service ≡ true)
       → service_numbered asked.service ≡ Some s → IsAsk d.program KU asked s → Leaves s asked live remains → IsWithin d uses k w (suc credit)
-      → fault_of d k (open_of t depth live) rest (replies.Ask (used k w) asked.at asked.service (map (normal um) asked.args) asked.shapes asked.bytes (told_runs k w um)) ≡ None
+      → fault_of d k (open_of t depth live) rest (honest_ask k w um asked) ≡ None
   unfolding fault_of
   legal_ask depth live remains asked s credit rest own place standing names ask leaves within =
-      let question : service_fault d k (open_of t depth live) asked.service (map (normal um) asked.args) asked.shapes asked.bytes ≡ None =
+      let question : service_fault d k (open_of t depth live) (asked_now um asked) ≡ None =
       question_fits d k KU um w.memory (open_of t depth live) asked s 0 live remains (judges d uses budget t KU objects k w um right r)
       (λ f func is handles. right.handlers f func is (ap (λ (u : Uses). u.handles f) (sym r.uses_are) ∙ handles))
       (lives_too d uses budget t KU objects k w um right r) names ask (objects_whole w.memory 0 live own) refl leaves in
@@ -152,7 +169,7 @@ module _ {d : Driver} {uses : Uses} {budget t : ℕ} {K KU : Knowledge} {objects
   pub legal_down : (upcall : Open) (at : At) (f : ℕ) (func : Func) (args : List Wire) (depth credit : ℕ) (rest : Rest)
       → IsStatement d.user at → has_down_stub d f ≡ true → slice_get d.program.funcs f ≡ Some func → AllFit d.program KU args (map (λ (p : Param). p.ty) func.params)
       → upcall.depth < depth → depth ≤ 255 → IsWithin d uses k w (suc credit)
-      → fault_of d k upcall rest (replies.Down (used k w) at depth f (map (normal um) args) (told_runs k w um)) ≡ None
+      → fault_of d k upcall rest (honest_down k w um at f args depth) ≡ None
   unfolding fault_of
   legal_down upcall at f func args depth credit rest place stub names fit deeper limited within =
       let positive : nat_lt upcall.depth depth ≡ true = lt-ltb _ _ deeper in

@@ -29,7 +29,8 @@ use Rattle.mdr_meaning.specs.Within.{Uses}
 use Rattle.mdr_model.specs.declared.command.Command.{Command}
 use Rattle.mdr_model.specs.declared.memory.Cell.{Cell}
 use Rattle.mdr_model.specs.declared.message.Fault.{Fault}
-use Rattle.mdr_model.specs.declared.message.Message.{Message}
+use Rattle.mdr_model.specs.declared.message.Answer.{Answer}
+use Rattle.mdr_model.specs.declared.message.Back.{Back}
 use Rattle.mdr_model.specs.declared.message.Message.TheVariants as message
 use Rattle.mdr_model.specs.declared.message.Told.{Told}
 use Rattle.mdr_model.specs.declared.outcome.End.TheVariants as ends
@@ -37,7 +38,7 @@ use Rattle.mdr_model.specs.declared.reply.Reply.{Reply}
 use Rattle.mdr_model.specs.declared.reply.Reply.TheVariants as replies
 use Rattle.mdr_model.specs.Copies.{agreed_after, tells}
 use Rattle.mdr_model.specs.Memory.{Memory, loaded, normal}
-use Rattle.mdr_model.specs.ReplyFaults.{reply_of as read_as, stop_number, user_stop}
+use Rattle.mdr_model.specs.ReplyFaults.{stop_number, user_stop}
 use Rattle.mdr_model.proofs.Tests.{and_right}
 use Rattle.mdr_model.specs.Sets.{is_in}
 use Rattle.mdr_model.specs.User.{renewed_copy}
@@ -48,9 +49,9 @@ use Rattle.mdr_plain.specs.Services.{as_now, served, served_by}
 use Rattle.mdr_plain.specs.Storage.{fresh as read_local, next_serial, read, remembers}
 use Rattle.mdr_plain.specs.World.{World, Ran, Ended, Stopped, advanced, after, counted as counting, given}
 use Rattle.mdr_shows.proofs.Membership.{membership_is_one}
-use Rattle.mdr_split.specs.Kernel.{answered, answers, applied, comes_back, continued, downcalled, judged, kernel_tree, next, runs_kernel, serviced, split_commands, taken, went}
+use Rattle.mdr_split.specs.Kernel.{answers, applied, asks, comes_back, continued, downcalled, judged, kernel_tree, next, runs_kernel, serviced, split_commands, taken, went}
 use Rattle.mdr_split.specs.Legal.{fault_of, has_down_stub, is_object_service, is_true}
-use Rattle.mdr_split.specs.Services.{serials_of}
+use Rattle.mdr_split.specs.Services.{asked_now, serials_of}
 use Rattle.mdr_split.specs.State.{Kernel, Open, Rest, Pending, Over, Waits}
 use Rattle.mdr_split.specs.State.{Down as CalledDown}
 use Rattle.mdr_split.specs.User.{AwaitsAnswer, Down as Below, Runs, User, answer_fits, back_fits, deliver, done as user_done, entered_behind, grown, guarded, opened, replied, replied_to, when_fits}
@@ -64,6 +65,7 @@ use Rattle.mdr_serves.proofs.KernelWork.{agree_closed, grows_on, uses_all}
 use Rattle.mdr_serves.proofs.Loaded.{is_loaded}
 use Rattle.mdr_serves.proofs.Messages
 use Rattle.mdr_serves.proofs.Replies
+use Rattle.mdr_serves.proofs.Replies.{honest_ask, honest_down, honest_return, honest_stop}
 use Rattle.mdr_serves.proofs.Results.{passed_twice}
 use Rattle.mdr_serves.proofs.Relations.{Agree, AreOpened, Comes, ended, stopped, IsPaid, IsRight, IsUserStop, IsWithin, Opens, Rel, grows_same, known_by, known_grows, learns, learns_grows, open_of, owing, replied_copy, resumed, telling, told_runs, used, user_stop_of, waiting}
 use Rattle.mdr_serves.proofs.Runs.{AreRun, Finishes, GoesOn, is_over, one_more, paid_less, paid_within, reply_of, user_at, walked_reply}
@@ -72,23 +74,9 @@ use Rattle.mdr_serves.proofs.Whole.{Stays, kernel_stays, objects_stay_so, parts_
 
 -- ---- an honest reply leads on
 
--- a reply as a message
-abbrev pub message_of : Reply → Message
-message_of (replies.Return ticks result runs) = message.Return ticks result runs
-message_of (replies.Down ticks at depth func args runs) = message.Down ticks at depth func args runs
-message_of (replies.Ask ticks at service args shapes bytes runs) = message.Ask ticks at service args shapes bytes runs
-message_of (replies.Stop ticks number at runs) = message.Stop ticks number at runs
-
-is_reply : (reply : Reply) → read_as (message_of reply) ≡ Some reply
-is_reply (replies.Return ticks result runs) = refl
-is_reply (replies.Down ticks at depth func args runs) = refl
-is_reply (replies.Ask ticks at service args shapes bytes runs) = refl
-is_reply (replies.Stop ticks number at runs) = refl
-
-next_taken : (d : Driver) (k : Kernel) (upcall : Open) (rest : Rest) (script : List Command) (reply : Reply) → fault_of d k upcall rest reply ≡ None → next d (Ok (message_of reply)) k upcall rest script ≡ taken d reply k upcall rest script
+next_taken : (d : Driver) (k : Kernel) (upcall : Open) (rest : Rest) (script : List Command) (reply : Reply) → fault_of d k upcall rest reply ≡ None → next d (Ok (message.Reply reply)) k upcall rest script ≡ taken d reply k upcall rest script
 unfolding next
-next_taken d k upcall rest script reply e =
-    ap (λ (o : Option Reply). answered d o k upcall rest script) (is_reply reply) ∙ ap (λ (f : Option Fault). judged d f reply k upcall rest script) e
+next_taken d k upcall rest script reply e = ap (λ (f : Option Fault). judged d f reply k upcall rest script) e
 
 -- ---- the same service, with arguments as they are now
 
@@ -100,23 +88,29 @@ passed_service d t asked w =
 
 -- ---- the user half accepts an honest message
 
+abbrev back_of : World → Wire → Told → Back
+back_of w v told = record { rest = w.clock.rest; result = v; told = told }
+
+abbrev answer_of : List Wire → Told → Answer
+answer_of rs told = record { results = rs; deaths = told.deaths; news = told.news }
+
 deliver_back : (d : Driver) (uses : Uses) (fuel budget t : ℕ) (K KU : Knowledge) (objects : List Wire) (copy : Memory) (w : World) (e f : ℕ) (result : Ty) (v : Wire) (told : Told) (depth : ℕ) (goes : Wire → Tree) (below : List Below)
     → Messages.Backed d uses budget t K KU objects copy w e f result v told
-    → deliver d fuel (user_at copy objects (record { stub = t; func = f; depth = depth; goes = goes } ∷ below)) (Ok (message.Back w.clock.rest v told))
+    → deliver d fuel (user_at copy objects (record { stub = t; func = f; depth = depth; goes = goes } ∷ below)) (Ok (message.Back (back_of w v told)))
     ≡ reply_of t objects (waiting d told copy w e) w below (agreed_after d.program told copy) w.clock.rest (goes v)
 unfolding deliver opened back_fits
 deliver_back d uses fuel budget t K KU objects copy w e f result v told depth goes below m = rw (m.lives, m.others, m.result_fits, m.cells, m.view) refl
 
 deliver_answer : (d : Driver) (uses : Uses) (fuel budget t : ℕ) (K KU : Knowledge) (outer live remains : List Wire) (copy : Memory) (before w : World) (e : ℕ) (asked : Asked) (s : Service) (rs : List Wire) (told : Told) (goes : List Wire → Tree) (below : List Below) (K' : Knowledge)
     → Answers.Answered d uses budget t K KU outer live remains copy before w e asked s rs told K'
-    → deliver d fuel (record { agreed = copy; entered = serials_of (outer ++ live); work = AwaitsAnswer t asked (top before.views) before.clock.rest goes below }) (Ok (message.Answer rs told.deaths told.news))
+    → deliver d fuel (record { agreed = copy; entered = serials_of (outer ++ live); work = AwaitsAnswer t asked (top before.views) before.clock.rest goes below }) (Ok (message.Answer (answer_of rs told)))
     ≡ reply_of t (outer ++ left_with s remains rs) (waiting d told copy w e) w below (agreed_after d.program told copy) w.clock.rest (goes rs)
 unfolding deliver opened answer_fits
 deliver_answer d uses fuel budget t K KU outer live remains copy before w e asked s rs told goes below K' m =
     let C : Memory = agreed_after d.program told copy in
     let lives : List ℕ = entered_behind asked.service told.deaths told.news (serials_of (outer ++ live)) in
     let u : User = record { agreed = copy; entered = serials_of (outer ++ live); work = AwaitsAnswer t asked (top before.views) before.clock.rest goes below } in
-    let accepted : answer_fits d copy (serials_of (outer ++ live)) asked rs told.deaths told.news ≡ true = rw (m.lives, m.objects, m.results) refl in
+    let accepted : answer_fits d copy (serials_of (outer ++ live)) asked (answer_of rs told) ≡ true = rw (m.lives, m.objects, m.results) refl in
     ap (λ (b : Bool). user_done u (when_fits b (let copy' : Memory = renewed_copy d.program told.deaths told.news copy in Runs (goes rs) before.clock.rest t lives (grown d t copy' told.news (top before.views)) copy' below))) accepted
     ∙ ap (λ (copy' : Memory). let view : List Cell = grown d t copy' told.news (top before.views) in replied_to t lives view before.clock.rest copy' below (walk (guarded view) before.clock.rest (goes rs) copy')) m.lives_alone
     ∙ ap (λ (view : List Cell). replied_to t lives view before.clock.rest C below (walk (guarded view) before.clock.rest (goes rs) C)) m.view
@@ -189,39 +183,39 @@ module _ (d : Driver) (uses : Uses) (right : IsRight d uses) (fuel budget n t de
   -- ---- replies
 
   next_return : {K : Knowledge} (KU : Knowledge) (k : Kernel) (w : World) (um : Memory) (v : Wire) (objects : List Wire) → Rel d uses budget t K KU objects k w um → IsResult d.program KU func.result v
-      → next d (Ok (message.Return (used k w) (normal um v) (told_runs k w um))) k (open_of t depth []) rest script ≡ continued d (normal w.memory v) (resumed k w um) rest script
+      → next d (Ok (message.Reply (honest_return k w um v))) k (open_of t depth []) rest script ≡ continued d (normal w.memory v) (resumed k w um) rest script
   unfolding taken
   next_return KU k w um v objects r fits =
-      next_taken d k (open_of t depth []) rest script (replies.Return (used k w) (normal um v) (told_runs k w um)) (Replies.legal_return right r depth func v rest names fits)
+      next_taken d k (open_of t depth []) rest script (honest_return k w um v) (Replies.legal_return right r depth func v rest names fits)
       ∙ ap (λ (k' : Kernel). continued d (normal um v) k' rest script) (Replies.stores_reply d uses budget t KU objects k w um r)
       ∙ ap (λ (x : Wire). continued d x (resumed k w um) rest script) (Accesses.result_same d uses budget t KU objects k w um func.result v r fits)
 
   next_stop : {K : Knowledge} (KU : Knowledge) (live objects : List Wire) (k : Kernel) (w : World) (um : Memory) (kind : StopKind) (at : At) → Rel d uses budget t K KU objects k w um → IsStatement d.user at → IsUserStop kind
-      → next d (Ok (message.Stop (used k w) (stop_number kind) at (told_runs k w um))) k (open_of t depth live) rest script ≡ Over (ends.Stop kind (Some at)) (resumed k w um)
+      → next d (Ok (message.Reply (honest_stop k w um (stop_number kind) at))) k (open_of t depth live) rest script ≡ Over (ends.Stop kind (Some at)) (resumed k w um)
   unfolding taken
   next_stop KU live objects k w um kind at r place own =
-      next_taken d k (open_of t depth live) rest script (replies.Stop (used k w) (stop_number kind) at (told_runs k w um)) (Replies.legal_stop right r (open_of t depth live) kind at rest place own)
+      next_taken d k (open_of t depth live) rest script (honest_stop k w um (stop_number kind) at) (Replies.legal_stop right r (open_of t depth live) kind at rest place own)
       ∙ ap (λ (o : Option StopKind). Over (ends.Stop (unwrap_or o stop.Bug) (Some at)) (applied (used k w) (told_runs k w um) k)) own.told
       ∙ ap (λ (k' : Kernel). Over (ends.Stop kind (Some at)) k') (Replies.stores_reply d uses budget t KU objects k w um r)
 
   next_ticks : {K : Knowledge} (KU : Knowledge) (live objects : List Wire) (k : Kernel) (w : World) (um : Memory) (at : At) → Rel d uses budget t K KU objects k w um → IsStatement d.user at → w.clock.rest ≡ 0
-      → next d (Ok (message.Stop (used k w) 16 at (told_runs k w um))) k (open_of t depth live) rest script ≡ Over (ends.Stop stop.Ticks (Some at)) (resumed k w um)
+      → next d (Ok (message.Reply (honest_stop k w um 16 at))) k (open_of t depth live) rest script ≡ Over (ends.Stop stop.Ticks (Some at)) (resumed k w um)
   unfolding taken user_stop
   next_ticks KU live objects k w um at r place none =
-      next_taken d k (open_of t depth live) rest script (replies.Stop (used k w) 16 at (told_runs k w um)) (Replies.legal_ticks right r (open_of t depth live) at rest place none)
+      next_taken d k (open_of t depth live) rest script (honest_stop k w um 16 at) (Replies.legal_ticks right r (open_of t depth live) at rest place none)
       ∙ ap (λ (k' : Kernel). Over (ends.Stop stop.Ticks (Some at)) k') (Replies.stores_reply d uses budget t KU objects k w um r)
 
   next_ask : {K : Knowledge} (KU : Knowledge) (live remains objects : List Wire) (k : Kernel) (w : World) (um : Memory) (asked : Asked) (s : Service) (credit : ℕ) → Rel d uses budget t K KU objects k w um → AreObjects w.memory 0 live
       → IsPlace d.user asked.at → IsStatement d.user asked.at ⊎ (is_object_service asked.service ≡ true) → service_numbered asked.service ≡ Some s → IsAsk d.program KU asked s → Leaves s asked live remains → IsWithin d uses k w (suc credit)
-      → next d (Ok (message.Ask (used k w) asked.at asked.service (map (normal um) asked.args) asked.shapes asked.bytes (told_runs k w um))) k (open_of t depth live) rest script
+      → next d (Ok (message.Reply (honest_ask k w um asked))) k (open_of t depth live) rest script
       ≡ serviced d (as_now w asked) (serves_asked d (held d) t asked w) (resumed k w um) (open_of t depth live) rest script
   unfolding taken
   next_ask KU live remains objects k w um asked s credit r own place standing numbered ask leaves within =
-      next_taken d k (open_of t depth live) rest script (replies.Ask (used k w) asked.at asked.service (map (normal um) asked.args) asked.shapes asked.bytes (told_runs k w um))
+      next_taken d k (open_of t depth live) rest script (honest_ask k w um asked)
       (Replies.legal_ask right r depth live remains asked s credit rest own place standing numbered ask leaves within)
-      ∙ ap (λ (k' : Kernel). serviced d (record asked { args = map (normal um) asked.args }) (serves_asked d (held d) t (record asked { args = map (normal um) asked.args }) k'.world) k' (open_of t depth live) rest script)
+      ∙ ap (λ (k' : Kernel). asks d (asked_now um asked) k' (open_of t depth live) rest script)
       (Replies.stores_reply d uses budget t KU objects k w um r)
-      ∙ ap (λ (xs : List Wire). serviced d (record asked { args = xs }) (serves_asked d (held d) t (record asked { args = xs }) w) (resumed k w um) (open_of t depth live) rest script)
+      ∙ ap (λ (xs : List Wire). asks d (record asked { args = xs }) (resumed k w um) (open_of t depth live) rest script)
       (Replies.asked_same d uses budget t KU objects k w um asked s r ask)
       ∙ ap (λ (ran : Ran (List Wire)). serviced d (as_now w asked) ran (resumed k w um) (open_of t depth live) rest script) (passed_service d t asked w)
 
@@ -231,10 +225,10 @@ module _ (d : Driver) (uses : Uses) (right : IsRight d uses) (fuel budget n t de
 
   next_down : {K : Knowledge} (KU : Knowledge) (live objects : List Wire) (k : Kernel) (w : World) (um : Memory) (at : At) (f : ℕ) (callee : Func) (args : List Wire) (d' credit : ℕ) → Rel d uses budget t K KU objects k w um
       → IsStatement d.user at → has_down_stub d f ≡ true → IsCall d.program KU callee at.func f args d' → depth < d' → IsWithin d uses k w (suc credit)
-      → next d (Ok (message.Down (used k w) at d' f (map (normal um) args) (told_runs k w um))) k (open_of t depth live) rest script ≡ goes_down at f d' live (resumed k w um) (map (normal w.memory) args)
+      → next d (Ok (message.Reply (honest_down k w um at f args d'))) k (open_of t depth live) rest script ≡ goes_down at f d' live (resumed k w um) (map (normal w.memory) args)
   unfolding taken
   next_down KU live objects k w um at f callee args d' credit r place stub crosses deeper within =
-      next_taken d k (open_of t depth live) rest script (replies.Down (used k w) at d' f (map (normal um) args) (told_runs k w um))
+      next_taken d k (open_of t depth live) rest script (honest_down k w um at f args d')
       (Replies.legal_down right r (open_of t depth live) at f callee args d' credit rest place stub crosses.names crosses.fit deeper crosses.limited within)
       ∙ ap (λ (k' : Kernel). goes_down at f d' live k' (map (normal k'.world.memory) (map (normal um) args))) (Replies.stores_reply d uses budget t KU objects k w um r)
       ∙ ap (λ (xs : List Wire). goes_down at f d' live (resumed k w um) (map (normal w.memory) xs)) (Replies.args_same d uses budget t KU objects k w um args (map (λ (p : Param). p.ty) callee.params) r crosses.fit)
@@ -254,7 +248,7 @@ module _ (d : Driver) (uses : Uses) (right : IsRight d uses) (fuel budget n t de
     by = λ K k w um m more e le rel opened within eq.
         let agree : Agree d uses budget K KU (replied_copy k w um) (closed w) = agree_closed d uses budget K KU (replied_copy k w um) w (Replies.agrees d uses budget t KU (outer ++ []) k w um rel) in
         subst (λ (q : ℕ). EndsAt [] (Tree.Done v under) k w um q) e
-        (subst (λ (os : List Wire). Finishes d uses fuel budget k.exchanges (next d (Ok (message.Return (used k w) (normal um v) (told_runs k w um))) k (open_of t depth []) rest script) (user_at (replied_copy k w um) os below) (later all)) (sym (append-nil outer))
+        (subst (λ (os : List Wire). Finishes d uses fuel budget k.exchanges (next d (Ok (message.Reply (honest_return k w um v))) k (open_of t depth []) rest script) (user_at (replied_copy k w um) os below) (later all)) (sym (append-nil outer))
         (subst (λ (p : Pending). Finishes d uses fuel budget k.exchanges p (user_at (replied_copy k w um) outer below) (later all)) (sym (next_return KU k w um v (outer ++ []) rel fits))
         (on.by K KU more up (resumed k w um) (normal w.memory v) (result_now d.program KU w.memory func.result v fits) (sym eq) agree (paid k w within))));
   }
@@ -282,7 +276,7 @@ module _ (d : Driver) (uses : Uses) (right : IsRight d uses) (fuel budget n t de
   out_of_ticks KU live credit at d' next' place k w um e rel within eq =
       let go : World → Ran Wire = λ (w' : World). whole next' w' in
       let stops : Stopped stop.Ticks (Some at) w ≡ all = sym (ap (λ (q : ℕ). closing (counting q (Some at) w go)) e) ∙ eq in
-      subst (λ (q : ℕ). Finishes d uses fuel budget k.exchanges (next d (Ok (message.Stop (k.world.clock.rest - q) 16 at (told_runs k w um))) k (open_of t depth live) rest script) (user_at (replied_copy k w um) (outer ++ live) []) (later all)) e
+      subst (λ (q : ℕ). Finishes d uses fuel budget k.exchanges (next d (Ok (message.Reply (replies.Stop (record { ticks = k.world.clock.rest - q; stop = 16; at = at; runs = told_runs k w um })))) k (open_of t depth live) rest script) (user_at (replied_copy k w um) (outer ++ live) []) (later all)) e
       (subst (λ (p : Pending). Finishes d uses fuel budget k.exchanges p (user_at (replied_copy k w um) (outer ++ live) []) (later all)) (sym (next_ticks KU live (outer ++ live) k w um at rel place e))
       (over_here (resumed k w um) (user_at (replied_copy k w um) (outer ++ live) []) stop.Ticks (Some at) (paid_within within) stops))
 
@@ -419,8 +413,8 @@ module _ (d : Driver) (uses : Uses) (right : IsRight d uses) (fuel budget n t de
       let k' : Kernel = waiting d told copy w' e in
       let u : User = record { agreed = copy; entered = serials_of (outer ++ live); work = AwaitsAnswer t asked (top w.views) w.clock.rest next' below } in
       let a : Answers.Answered d uses budget t K KU outer live remains copy w w' e asked s rs told m.0 = m.1 in
-      subst (λ (o : Open). Finishes d uses fuel budget k.exchanges (Waits (message.Answer rs told.deaths told.news) k' o rest script) u (later all)) (sym (a.counted_kernel depth))
-      (one_more (message.Answer rs told.deaths told.news) k' (open_of t depth (left_with s remains rs)) rest script u
+      subst (λ (o : Open). Finishes d uses fuel budget k.exchanges (Waits (message.Answer (answer_of rs told)) k' o rest script) u (later all)) (sym (a.counted_kernel depth))
+      (one_more (message.Answer (answer_of rs told)) k' (open_of t depth (left_with s remains rs)) rest script u
       (reply_of t (outer ++ left_with s remains rs) k' w' below (agreed_after d.program told copy) w'.clock.rest (next' rs)) (later all)
       (deliver_answer d uses fuel budget t K KU outer live remains copy w w' e asked s rs told next' below m.0 a)
       (omega arith)
@@ -491,7 +485,7 @@ module _ (d : Driver) (uses : Uses) (right : IsRight d uses) (fuel budget n t de
             let copy : Memory = agreed_after d.program (told set) k'.agreed in
             let m : Messages.Backed d uses budget t K' KU' (outer ++ live) k'.agreed (renewed set w') (suc k'.exchanges) f callee.result v (told set) =
             Messages.backed d uses budget t K' KU' (outer ++ live) k'.agreed k'.exchanges f callee passed v w' right agree objects named known fits now set is in
-            one_more (message.Back w'.clock.rest v (told set)) k2 (open_of t depth live) rest script u (reply_of t (outer ++ live) k2 (renewed set w') below copy w'.clock.rest (next' v)) (later all)
+            one_more (message.Back (back_of w' v (told set))) k2 (open_of t depth live) rest script u (reply_of t (outer ++ live) k2 (renewed set w') below copy w'.clock.rest (next' v)) (later all)
             (deliver_back d uses fuel budget t K' KU' (outer ++ live) k'.agreed (renewed set w') (suc k'.exchanges) f callee.result v (told set) d' next' below m)
             (omega (arith, agree.total))
             ((onward (learns KU' (told set).news) (grows_on KU KU' (learns KU' (told set).news) grows (learns_grows KU' (told set).news)) v m.given).by K' k2 (renewed set w') copy w'.clock.rest up refl le m.rel tt (within set) eq')

@@ -10,6 +10,7 @@ use Rattle.mdr_meaning.specs.Cut.{cut}
 use Rattle.mdr_meaning.specs.Tree.{Tree}
 use Rattle.mdr_meaning.specs.Walk.{Reached, Walked, cut_reached, walk, walked}
 use Rattle.mdr_model.specs.declared.memory.Cell.{Cell}
+use Rattle.mdr_model.specs.declared.message.Call.{Call}
 use Rattle.mdr_model.specs.declared.message.Message.{Message}
 use Rattle.mdr_model.specs.declared.message.Message.TheVariants as message
 use Rattle.mdr_model.specs.KernelState.{Reading}
@@ -146,26 +147,33 @@ same_done true r s t t' rest stub entered view copy below below' u u' fits same 
 same_done false r s t t' rest stub entered view copy below below' u u' fits same waits users = same_refused 3 r u u' users
 
 module _ (d : Driver) where
+  -- the tree of a function that is called, with so much fuel
+  abbrev begins : ℕ → Call → Tree
+  begins n call = started d.user n call.func call.args call.depth Tree.Idle
+
+  same_begin : (n n' r : ℕ) (call : Call) → r + call.rest < n → r + call.rest < n' → cut (r + call.rest) (begins n call) ≡ cut (r + call.rest) (begins n' call)
+  same_begin n n' r call less less' = started_fuel_is_no_matter d.user n n' (r + call.rest) call.func less less' call.args call.depth Tree.Idle
+
   -- a message needs what is held up to the ticks that it grants and those that come later, and fuel for them
   opened_cut :
       (n n' r : ℕ) (copy : Memory) (entered : List ℕ) (work : Work) (x : Message) (u u' : User) → r + granted (Ok x) < n → r + granted (Ok x) < n' → cut_user r u ≡ cut_user r u'
       → cut_delivered r (done u (opened d n copy entered work x)) ≡ cut_delivered r (done u' (opened d n' copy entered (cut_work (r + granted (Ok x)) work) x))
   unfolding opened call_fits
-  opened_cut n n' r copy entered Nothing (message.Call func depth rest args told) u u' less less' users =
-      same_done _ r (r + rest) (started d.user n func args depth Tree.Idle) (started d.user n' func args depth Tree.Idle) rest _ _ _ _ [] [] u u' (le_refl (r + rest))
-      (started_fuel_is_no_matter d.user n n' (r + rest) func less less' args depth Tree.Idle) refl users
+  opened_cut n n' r copy entered Nothing (message.Call call) u u' less less' users =
+      same_done _ r (r + call.rest) (begins n call) (begins n' call) call.rest _ _ _ _ [] [] u u' (le_refl (r + call.rest)) (same_begin n n' r call less less') refl users
   opened_cut n n' r copy entered Nothing _ u u' less less' users = same_refused 2 r u u' users
-  opened_cut n n' r copy entered (AwaitsBack down below) (message.Call func depth rest args told) u u' less less' users =
-      same_done _ r (r + rest) (started d.user n func args depth Tree.Idle) (started d.user n' func args depth Tree.Idle) rest _ _ _ _
-      (down ∷ below) (map (cut_down (r + rest)) (down ∷ below)) u u' (le_refl (r + rest))
-      (started_fuel_is_no_matter d.user n n' (r + rest) func less less' args depth Tree.Idle) (sym (cut_cut_below r (r + rest) (down ∷ below) (omega arith))) users
-  opened_cut n n' r copy entered (AwaitsBack down below) (message.Back rest result told) u u' less less' users =
-      same_done _ r (r + rest) (down.goes result) (cut (r + rest) (down.goes result)) rest _ _ _ _ below (map (cut_down (r + rest)) below) u u' (le_refl (r + rest))
-      (sym (cut_cut (r + rest) (r + rest) (le_refl (r + rest)) (down.goes result))) (sym (cut_cut_below r (r + rest) below (omega arith))) users
+  opened_cut n n' r copy entered (AwaitsBack down below) (message.Call call) u u' less less' users =
+      same_done _ r (r + call.rest) (begins n call) (begins n' call) call.rest _ _ _ _ (down ∷ below) (map (cut_down (r + call.rest)) (down ∷ below)) u u' (le_refl (r + call.rest))
+      (same_begin n n' r call less less') (sym (cut_cut_below r (r + call.rest) (down ∷ below) (omega arith))) users
+  opened_cut n n' r copy entered (AwaitsBack down below) (message.Back back) u u' less less' users =
+      let s : ℕ = r + back.rest in
+      same_done _ r s (down.goes back.result) (cut s (down.goes back.result)) back.rest _ _ _ _ below (map (cut_down s) below) u u' (le_refl s)
+      (sym (cut_cut s s (le_refl s) (down.goes back.result))) (sym (cut_cut_below r s below (omega arith))) users
   opened_cut n n' r copy entered (AwaitsBack down below) _ u u' less less' users = same_refused 2 r u u' users
-  opened_cut n n' r copy entered (AwaitsAnswer stub asked seen left goes below) (message.Answer results deaths news) u u' less less' users =
-      same_done _ r (r + 0 + left) (goes results) (cut (r + 0 + left) (goes results)) left _ _ _ _ below (map (cut_down (r + 0)) below) u u' (omega arith)
-      (sym (cut_cut (r + 0 + left) (r + 0 + left) (le_refl (r + 0 + left)) (goes results))) (sym (cut_cut_below r (r + 0) below (omega arith))) users
+  opened_cut n n' r copy entered (AwaitsAnswer stub asked seen left goes below) (message.Answer answer) u u' less less' users =
+      let s : ℕ = r + 0 + left in
+      same_done _ r s (goes answer.results) (cut s (goes answer.results)) left _ _ _ _ below (map (cut_down (r + 0)) below) u u' (omega arith)
+      (sym (cut_cut s s (le_refl s) (goes answer.results))) (sym (cut_cut_below r (r + 0) below (omega arith))) users
   opened_cut n n' r copy entered (AwaitsAnswer stub asked seen left goes below) _ u u' less less' users = same_refused 2 r u u' users
 
   deliver_cut : (n n' r : ℕ) (u : User) (x : Reading) → r + granted x < n → r + granted x < n' → cut_delivered r (deliver d n u x) ≡ cut_delivered r (deliver d n' (cut_user (r + granted x) u) x)

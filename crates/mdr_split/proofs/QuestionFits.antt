@@ -27,7 +27,7 @@ use Rattle.mdr_model.specs.Faults.{or_else, unless}
 use Rattle.mdr_model.specs.Memory.{Memory, normal}
 use Rattle.mdr_model.proofs.Tests.{and_both, other_number}
 use Rattle.mdr_split.specs.Legal.{args_fault, fits_service, is_asked_so, is_kernel_half, kernel_places, may_be_given, service_fault, service_faults}
-use Rattle.mdr_split.specs.Services.{Births, Elements, NoShape, OneElement, are_different, has_number, may_be_born, may_die, names_object, serials_of, shapes_fit, terms_of, types_of}
+use Rattle.mdr_split.specs.Services.{Births, Elements, NoShape, OneElement, are_different, asked_now, has_number, may_be_born, may_die, names_object, serials_of, shapes_fit, terms_of, types_of}
 use Rattle.mdr_split.specs.State.{Kernel, Open}
 use Rattle.mdr_split.proofs.FitLaws.{Judges, args_pass, fits_normal, no_args}
 use Rattle.mdr_split.proofs.ObjectLaws.{AreWhole, IsWhole, LivesToo, deaths_right, objects_kept, whole_behind}
@@ -241,14 +241,14 @@ leaves_right program K w m from entered a Enter live remains lives h whole is le
 -- where the objects live in the memory w, and m is the one by which arguments are sent
 pub question_fits : (d : Driver) (k : Kernel) (K : Knowledge) (w m : Memory) (upcall : Open) (a : Asked) (s : Service) (from : ℕ) (live remains : List Wire)
     → Judges (kernel_places d k) K m → AreHandlers d K → LivesToo K w m → service_numbered a.service ≡ Some s → IsAsk d.program K a s
-    → AreWhole w from live → upcall.entered ≡ serials_of live → Leaves s a live remains → service_fault d k upcall a.service (map (normal m) a.args) a.shapes a.bytes ≡ None
+    → AreWhole w from live → upcall.entered ≡ serials_of live → Leaves s a live remains → service_fault d k upcall (asked_now m a) ≡ None
 unfolding service_fault
 question_fits d k K w m upcall a s from live remains judges handlers lives numbered h whole entered leaves =
     let args : List Wire = map (normal m) a.args in
-    let asked : is_asked_so d upcall (terms_of s) args a.shapes a.bytes ≡ true =
+    let asked : is_asked_so d upcall (terms_of s) (asked_now m a) ≡ true =
     and_both _ _ (shapes_right d.program K a s h)
     (and_both _ _ (bytes_right d.program K a s h) (leaves_right d.program K w m from upcall.entered a s live remains lives h whole entered leaves))
     in
-    ap (λ (o : Option Service). service_faults d k upcall o args a.shapes a.bytes) numbered
+    ap (λ (o : Option Service). service_faults d k upcall o (asked_now m a)) numbered
     ∙ ap (λ (b : Bool). or_else (unless b refusal.BadService 0) (args_fault (fits_service d k (Some s)) 0 (types_of (terms_of s).arguments args) args)) asked
     ∙ args_right d k K m judges w from a s live remains handlers h whole leaves

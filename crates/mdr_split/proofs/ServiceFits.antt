@@ -1,5 +1,5 @@
 -- Questions to services, and their answers, fit, in the form in which replies and messages use it.
-use Rattle.std.proofs.Common.{◌≡◌, ℕ, true, List, map, Some, None, ap, ◌∙◌}
+use Rattle.std.proofs.Common.{◌≡◌, ℕ, true, List, Some, None, ap, ◌∙◌}
 use Rattle.std.specs.Prelude.{slice_get}
 use Rattle.mdr_core.specs.declared.program.Func.{Func}
 use Rattle.mdr_core.specs.declared.program.Program.{Program}
@@ -12,7 +12,7 @@ use Rattle.mdr_meaning.specs.Fit.{Knowledge}
 use Rattle.mdr_meaning.specs.Tree.{Asked}
 use Rattle.mdr_model.specs.declared.message.New.{New}
 use Rattle.mdr_model.specs.Agreement.{IsBelow}
-use Rattle.mdr_model.specs.Memory.{Memory, is_live, normal}
+use Rattle.mdr_model.specs.Memory.{Memory, is_live}
 use Rattle.mdr_plain.specs.Services.{served}
 use Rattle.mdr_plain.specs.Storage.{next_serial}
 use Rattle.mdr_plain.specs.World.{World, Ended}
@@ -22,7 +22,7 @@ use Rattle.mdr_split.proofs.FitLaws.{Judges}
 pub use Rattle.mdr_split.proofs.ObjectLaws.{AreWhole, IsWhole}
 use Rattle.mdr_split.proofs.QuestionFits.{question_fits as asked_right}
 use Rattle.mdr_split.specs.Legal.{is_kernel_half, kernel_places, service_fault}
-use Rattle.mdr_split.specs.Services.{are_given_by, results_fit, serials_of}
+use Rattle.mdr_split.specs.Services.{are_given_by, asked_now, results_fit, serials_of}
 use Rattle.mdr_split.specs.State.{Kernel, Open}
 use Rattle.mdr_watched.specs.Driver.{Driver}
 
@@ -32,7 +32,7 @@ pub question_fits : (d : Driver) (k : Kernel) (K : Knowledge) (m w : Memory) (up
     → ((serial : ℕ) (shape : Shape) → K.blocks serial ≡ Some shape → is_live w serial ≡ true → is_live m serial ≡ true)
     → service_numbered a.service ≡ Some s → IsAsk d.program K a s
     → AreWhole w from live → upcall.entered ≡ serials_of live → Leaves s a live remains
-    → service_fault d k upcall a.service (map (normal m) a.args) a.shapes a.bytes ≡ None
+    → service_fault d k upcall (asked_now m a) ≡ None
 question_fits d k K m w upcall a s from live remains judges handlers lives names ask whole entered leaves = asked_right d k K w m upcall a s from live remains judges handlers lives names ask whole entered leaves
 
 -- of a question that has the service and the shapes of the one that was asked

@@ -11,6 +11,7 @@ use Rattle.mdr_model.specs.declared.command.Command.{Command}
 use Rattle.mdr_model.specs.declared.message.Fault.{Fault}
 use Rattle.mdr_model.specs.declared.message.Message.{Message}
 use Rattle.mdr_model.specs.declared.outcome.End.TheVariants as ends
+use Rattle.mdr_model.specs.declared.reply.Down.{Down as Downcall}
 use Rattle.mdr_model.specs.declared.reply.Reply.{Reply}
 use Rattle.mdr_model.specs.declared.reply.Reply.TheVariants as replies
 use Rattle.mdr_model.specs.Faults.{fault}
@@ -24,7 +25,8 @@ use Rattle.mdr_plain.specs.Scripts.{Beginning, Did, Enters, Opens, begin, return
 use Rattle.mdr_plain.specs.World.{World, Ran, Ended, Stopped, Work, after}
 use Rattle.mdr_bound.specs.declared.bound.Bound.{Bound}
 use Rattle.mdr_split.specs.AnyAnswers.{EndsUnchanged, answer_fault, message_fault}
-use Rattle.mdr_split.specs.Kernel.{SplitRun, answered, answers, applied, begins, called, calls, comes_back, downcalled, ended, first_kernel, gave, judged, kernel_tree, next, over, refused, run_from_pending, runs_kernel, serviced, split_by, split_commands, split_run, taken, then_split, went}
+use Rattle.mdr_split.specs.Kernel.{SplitRun, answered, answers, applied, begins, called, calls, comes_back, continued, downcalled, ended, first_kernel, gave, goes_down, judged, kernel_tree, next, over, refused, run_from_pending, runs_kernel, serviced, split_by, split_commands, split_run, taken, then_split, went}
+use Rattle.mdr_split.specs.Services.{asked_of}
 use Rattle.mdr_split.specs.State.{Kernel, Open, Base, Commanded, Down, Rest, Noted, Resumes, Pending, Over, Waits}
 use Rattle.mdr_watched.specs.Driver.{Driver, is_user}
 use Rattle.mdr_watched.specs.Views.{closed}
@@ -120,20 +122,23 @@ module _ (d : Driver) where
   service_ends asked (Ended results w) k upcall rest script = answer_ends results w k _ rest script
   service_ends asked (Stopped kind at w) k upcall rest script = tt
 
+  continued_ends : (v : Wire) (k : Kernel) (rest : Rest) (script : List Command) → EndsItself (continued d v k rest script)
+  continued_ends v k Noted script = then_ends (ended d v k.world) k (λ k'. split_commands d script k') (λ k'. commands_end script k')
+  continued_ends v k (Resumes next' base) script = went_ends base (runs_kernel d (next' v) (closed k.world)) k (λ k'. split_commands d script k') script (λ k'. commands_end script k')
+
+  goes_ends : (down : Downcall) (k : Kernel) (upcall : Open) (rest : Rest) (script : List Command) → EndsItself (goes_down d down k upcall rest script)
+  goes_ends down k upcall rest script =
+      let passed : List Wire = map (normal k.world.memory) down.args in
+      went_ends (Down down.at down.func passed upcall rest) (runs_kernel d (kernel_tree d down.func passed down.depth k.world) k.world) k (λ k'. split_commands d script k') script (λ k'. commands_end script k')
+
   taken_ends : (reply : Reply) (k : Kernel) (upcall : Open) (rest : Rest) (script : List Command) → EndsItself (taken d reply k upcall rest script)
   unfolding taken
-  taken_ends (replies.Return ticks v runs) k upcall Noted script =
-      then_ends (ended d v (applied ticks runs k).world) (applied ticks runs k) (λ k'. split_commands d script k') (λ k'. commands_end script k')
-  taken_ends (replies.Return ticks v runs) k upcall (Resumes next' base) script =
-      went_ends base (runs_kernel d (next' v) (closed (applied ticks runs k).world)) (applied ticks runs k) (λ k'. split_commands d script k') script (λ k'. commands_end script k')
-  taken_ends (replies.Down ticks at depth func args runs) k upcall rest script =
-      let k' : Kernel = applied ticks runs k in
-      let passed : List Wire = map (normal k'.world.memory) args in
-      went_ends (Down at func passed upcall rest) (runs_kernel d (kernel_tree d func passed depth k'.world) k'.world) k' (λ k''. split_commands d script k'') script (λ k''. commands_end script k'')
-  taken_ends (replies.Ask ticks at service args shapes bytes runs) k upcall rest script =
-      let asked : Asked = record { service = service; at = at; args = args; shapes = shapes; bytes = bytes } in
-      service_ends asked (serves d (held d) upcall.func asked (applied ticks runs k).world) (applied ticks runs k) upcall rest script
-  taken_ends (replies.Stop ticks number at runs) k upcall rest script = tt
+  taken_ends (replies.Return return) k upcall rest script = continued_ends return.result (applied return.ticks return.runs k) rest script
+  taken_ends (replies.Down down) k upcall rest script = goes_ends down (applied down.ticks down.runs k) upcall rest script
+  taken_ends (replies.Ask ask) k upcall rest script =
+      let k' : Kernel = applied ask.ticks ask.runs k in
+      service_ends (asked_of ask) (serves d (held d) upcall.func (asked_of ask) k'.world) k' upcall rest script
+  taken_ends (replies.Stop said) k upcall rest script = tt
 
   answered_refuses : (o : Option Reply) (k : Kernel) (upcall : Open) (rest : Rest) (script : List Command) (f : Fault) → message_fault d k upcall rest o ≡ Some f → answered d o k upcall rest script ≡ refused f k
   answered_refuses None k upcall rest script f e = let same : fault refusal.NotAwaited 0 ≡ f = Prim.cc in ap (λ (x : Fault). refused x k) same

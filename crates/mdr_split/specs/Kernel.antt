@@ -16,6 +16,7 @@ use Rattle.mdr_model.specs.declared.message.Run.{Run}
 use Rattle.mdr_model.specs.declared.message.Told.{Told}
 use Rattle.mdr_model.specs.declared.outcome.End.{End}
 use Rattle.mdr_model.specs.declared.outcome.End.TheVariants as ends
+use Rattle.mdr_model.specs.declared.reply.Down.{Down as Downcall}
 use Rattle.mdr_model.specs.declared.reply.Reply.{Reply}
 use Rattle.mdr_model.specs.declared.reply.Reply.TheVariants as replies
 use Rattle.mdr_model.specs.Copies.{agreed_after, put_runs, tells}
@@ -31,7 +32,7 @@ use Rattle.mdr_plain.specs.Storage.{accesses}
 use Rattle.mdr_plain.specs.World.{World, Ran, Ended, Stopped, Work, advanced, after, done}
 use Rattle.mdr_bound.specs.declared.bound.Bound.{Bound}
 use Rattle.mdr_split.specs.Legal.{fault_of}
-use Rattle.mdr_split.specs.Services.{counted}
+use Rattle.mdr_split.specs.Services.{asked_of, counted}
 use Rattle.mdr_split.specs.State.{Kernel, Open, Base, Commanded, Down, Rest, Noted, Resumes, Pending, Over, Waits}
 use Rattle.mdr_watched.specs.Driver.{Driver, entry_roots, is_user, touched_by}
 use Rattle.mdr_watched.specs.Views.{closed, opened, taken as with_set, top}
@@ -56,7 +57,7 @@ begins d f args w = with_set (visible d.program (touched_by d.plan f) w.memory [
 abbrev pub called : Driver → (func : ℕ) → (depth : ℕ) → (args : List Wire) → Work → Kernel → Rest → List Command → Pending
 called d f depth args (Ended x w) k rest script =
     let told : Told = tells d.program (top w.views) args k.agreed w.memory in
-    Waits (message.Call f depth w.clock.rest args told) (sent d w told k) (record { func = f; depth = depth; entered = [] }) rest script
+    Waits (message.Call (record { func = f; depth = depth; rest = w.clock.rest; args = args; told = told })) (sent d w told k) (record { func = f; depth = depth; entered = [] }) rest script
 called d f depth args (Stopped kind at w) k rest script = over (ends.Stop kind at) w k
 
 unfoldable pub calls : Driver → (func : ℕ) → (depth : ℕ) → (args : List Wire) → World → Kernel → Rest → List Command → Pending
@@ -66,13 +67,13 @@ calls d f depth args w k rest script = called d f depth args (begins d f args w)
 unfoldable pub comes_back : Driver → Wire → World → Kernel → Open → Rest → List Command → Pending
 comes_back d v w k upcall rest script =
     let told : Told = tells d.program (top w.views) (values_of_result v) k.agreed w.memory in
-    Waits (message.Back w.clock.rest v told) (sent d w told k) upcall rest script
+    Waits (message.Back (record { rest = w.clock.rest; result = v; told = told })) (sent d w told k) upcall rest script
 
 -- a service was done, and its results are told, and no cells
 unfoldable pub answers : Driver → List Wire → World → Kernel → Open → Rest → List Command → Pending
 answers d results w k upcall rest script =
     let told : Told = tells d.program [] results k.agreed w.memory in
-    Waits (message.Answer results told.deaths told.news) (sent d w told k) upcall rest script
+    Waits (message.Answer (record { results = results; deaths = told.deaths; news = told.news })) (sent d w told k) upcall rest script
 
 -- ---- code of the kernel half
 
@@ -142,19 +143,23 @@ serviced d asked (Stopped kind at w) k upcall rest script = over (ends.Stop kind
 abbrev pub refused : Fault → Kernel → Pending
 refused f k = Over (ends.Refused k.exchanges f.kind f.number) k
 
--- what a legal reply does. A function of the kernel half runs, with its arguments as they are now, and a service is done, as where there is one memory
+-- a function of the kernel half runs, with its arguments as they are now
+abbrev pub goes_down : Driver → Downcall → Kernel → Open → Rest → List Command → Pending
+goes_down d down k upcall rest script =
+    let passed : List Wire = map (normal k.world.memory) down.args in
+    went d (Down down.at down.func passed upcall rest) (runs_kernel d (kernel_tree d down.func passed down.depth k.world) k.world) k (λ k'. split_commands d script k') script
+
+-- a service is done, as where there is one memory
+abbrev pub asks : Driver → Asked → Kernel → Open → Rest → List Command → Pending
+asks d asked k upcall rest script = serviced d asked (serves d (held d) upcall.func asked k.world) k upcall rest script
+
+-- what a legal reply does
 unfoldable pub taken : Driver → Reply → Kernel → Open → Rest → List Command → Pending
-taken d (replies.Return ticks result runs) k upcall rest script = continued d result (applied ticks runs k) rest script
-taken d (replies.Down ticks at depth func args runs) k upcall rest script =
-    let k' : Kernel = applied ticks runs k in
-    let passed : List Wire = map (normal k'.world.memory) args in
-    went d (Down at func passed upcall rest) (runs_kernel d (kernel_tree d func passed depth k'.world) k'.world) k' (λ k''. split_commands d script k'') script
-taken d (replies.Ask ticks at service args shapes bytes runs) k upcall rest script =
-    let k' : Kernel = applied ticks runs k in
-    let asked : Asked = record { service = service; at = at; args = args; shapes = shapes; bytes = bytes } in
-    serviced d asked (serves d (held d) upcall.func asked k'.world) k' upcall rest script
-taken d (replies.Stop ticks number at runs) k upcall rest script =
-    Over (ends.Stop (unwrap_or (user_stop number) stop.Bug) (Some at)) (applied ticks runs k)
+taken d (replies.Return return) k upcall rest script = continued d return.result (applied return.ticks return.runs k) rest script
+taken d (replies.Down down) k upcall rest script = goes_down d down (applied down.ticks down.runs k) upcall rest script
+taken d (replies.Ask ask) k upcall rest script = asks d (asked_of ask) (applied ask.ticks ask.runs k) upcall rest script
+taken d (replies.Stop said) k upcall rest script =
+    Over (ends.Stop (unwrap_or (user_stop said.stop) stop.Bug) (Some said.at)) (applied said.ticks said.runs k)
 
 abbrev pub judged : Driver → Option Fault → Reply → Kernel → Open → Rest → List Command → Pending
 judged d (Some f) reply k upcall rest script = refused f k

@@ -10,11 +10,11 @@ use Rattle.mdr_core.specs.declared.types.Ty.{Ty}
 use Rattle.mdr_core.specs.declared.types.Ty.TheVariants as type
 use Rattle.mdr_core.specs.Layout.{Leaf}
 use Rattle.mdr_core.specs.Services.{Service, RequestIrq, service_numbered}
-use Rattle.mdr_meaning.specs.declared.shape.Shape64.{Shape64}
 use Rattle.mdr_meaning.specs.declared.wire.Wire.{Wire}
 use Rattle.mdr_meaning.specs.declared.wire.Wire.TheVariants as wire
 use Rattle.mdr_meaning.specs.Fair.{stands}
 use Rattle.mdr_meaning.specs.Sides.{Body}
+use Rattle.mdr_meaning.specs.Tree.{Asked}
 use Rattle.mdr_model.specs.declared.memory.Cell.{Cell}
 use Rattle.mdr_model.specs.declared.message.Fault.{Fault}
 use Rattle.mdr_model.specs.declared.message.New.{New}
@@ -31,7 +31,7 @@ use Rattle.mdr_paths.specs.Numbers.{numbers}
 use Rattle.mdr_paths.specs.Paths.{is_in as is_among}
 use Rattle.mdr_slice.specs.Calls.{names_of}
 use Rattle.mdr_split.specs.Fits.{Places, fits, fits_result, is_view}
-use Rattle.mdr_split.specs.Services.{Terms, may_die, shapes_fit, terms_of, types_of}
+use Rattle.mdr_split.specs.Services.{Terms, asked_of, may_die, shapes_fit, terms_of, types_of}
 use Rattle.mdr_split.specs.State.{Kernel, Open, Rest}
 use Rattle.mdr_watched.specs.Driver.{Driver}
 use Rattle.mdr_watched.specs.Views.{top}
@@ -138,18 +138,23 @@ unfoldable pub fits_service : Driver → Kernel → Option Service → Ty → Wi
 fits_service d k service ty v = fits (kernel_places d k) ty v && may_be_given d service v
 
 -- what a service is asked with besides arguments that fit
-abbrev pub is_asked_so : Driver → Open → Terms → List Wire → List Shape64 → List ℕ → Bool
-is_asked_so d upcall terms args shapes bytes = shapes_fit d.program terms.shapes shapes && (nat_le (length bytes) terms.bytes && may_die terms.arguments upcall.entered args)
+abbrev pub is_asked_so : Driver → Open → Terms → Asked → Bool
+is_asked_so d upcall terms asked =
+    shapes_fit d.program terms.shapes asked.shapes && (nat_le (length asked.bytes) terms.bytes && may_die terms.arguments upcall.entered asked.args)
 
-abbrev pub service_faults : Driver → Kernel → Open → Option Service → List Wire → List Shape64 → List ℕ → Option Fault
-service_faults d k upcall None args shapes bytes = Some (fault refusal.BadService 0)
-service_faults d k upcall (Some service) args shapes bytes =
-    or_else (unless (is_asked_so d upcall (terms_of service) args shapes bytes) refusal.BadService 0)
-    (args_fault (fits_service d k (Some service)) 0 (types_of (terms_of service).arguments args) args)
+-- the fault of a question with these terms
+abbrev pub terms_fault : Driver → Kernel → Open → Option Service → Terms → Asked → Option Fault
+terms_fault d k upcall service terms asked =
+    or_else (unless (is_asked_so d upcall terms asked) refusal.BadService 0)
+    (args_fault (fits_service d k service) 0 (types_of terms.arguments asked.args) asked.args)
+
+abbrev pub service_faults : Driver → Kernel → Open → Option Service → Asked → Option Fault
+service_faults d k upcall None asked = Some (fault refusal.BadService 0)
+service_faults d k upcall (Some service) asked = terms_fault d k upcall (Some service) (terms_of service) asked
 
 -- the fault of a question: of the service, and then of its arguments
-unfoldable pub service_fault : Driver → Kernel → Open → (service : ℕ) → List Wire → List Shape64 → List ℕ → Option Fault
-service_fault d k upcall n args shapes bytes = service_faults d k upcall (service_numbered n) args shapes bytes
+unfoldable pub service_fault : Driver → Kernel → Open → Asked → Option Fault
+service_fault d k upcall asked = service_faults d k upcall (service_numbered asked.service) asked
 
 -- ---- replies
 
@@ -163,37 +168,37 @@ abbrev pub has_none : List ℕ → Bool
 has_none [] = true
 has_none (n ∷ ns) = false
 
--- the first fault of a reply, in the order of the refusals
-unfoldable pub fault_of : Driver → Kernel → Open → Rest → Reply → Option Fault
-fault_of d k upcall rest (replies.Return ticks result runs) =
-    first_fault (
-    ticks_fault k ticks
-    ∷ unless (fits_result (kernel_places d k) (result_of (slice_get d.program.funcs upcall.func)) result) refusal.BadResult 0
+-- the faults that are looked for in a reply, in the order of the refusals
+abbrev pub faults_of : Driver → Kernel → Open → Reply → List (Option Fault)
+faults_of d k upcall (replies.Return return) =
+    ticks_fault k return.ticks
+    ∷ unless (fits_result (kernel_places d k) (result_of (slice_get d.program.funcs upcall.func)) return.result) refusal.BadResult 0
     ∷ unless (has_none upcall.entered) refusal.StillEntered 0
-    ∷ reply_runs_fault d k runs
-    ∷ [])
-fault_of d k upcall rest (replies.Down ticks at depth func args runs) =
-    first_fault (
-    unless (is_awaited k ticks) refusal.NotAwaited 0
-    ∷ ticks_fault k ticks
-    ∷ unless (is_user_place d at) refusal.BadPlace 0
-    ∷ unless (nat_lt upcall.depth depth && nat_le depth 255) refusal.BadDepth 0
-    ∷ unless (has_down_stub d func) refusal.NoStub 0
-    ∷ args_fault (fits (kernel_places d k)) 0 (params_of (slice_get d.program.funcs func)) args
-    ∷ reply_runs_fault d k runs
-    ∷ [])
-fault_of d k upcall rest (replies.Ask ticks at service args shapes bytes runs) =
-    first_fault (
-    unless (is_awaited k ticks) refusal.NotAwaited 0
-    ∷ ticks_fault k ticks
-    ∷ unless (is_ask_place d service at) refusal.BadPlace 0
-    ∷ service_fault d k upcall service args shapes bytes
-    ∷ reply_runs_fault d k runs
-    ∷ [])
-fault_of d k upcall rest (replies.Stop ticks number at runs) =
-    first_fault (
-    ticks_fault k ticks
-    ∷ unless (is_user_place d at) refusal.BadPlace 0
-    ∷ unless (is_stop number ticks k.world.clock.rest) refusal.BadStop 0
-    ∷ reply_runs_fault d k runs
-    ∷ [])
+    ∷ reply_runs_fault d k return.runs
+    ∷ []
+faults_of d k upcall (replies.Down down) =
+    unless (is_awaited k down.ticks) refusal.NotAwaited 0
+    ∷ ticks_fault k down.ticks
+    ∷ unless (is_user_place d down.at) refusal.BadPlace 0
+    ∷ unless (nat_lt upcall.depth down.depth && nat_le down.depth 255) refusal.BadDepth 0
+    ∷ unless (has_down_stub d down.func) refusal.NoStub 0
+    ∷ args_fault (fits (kernel_places d k)) 0 (params_of (slice_get d.program.funcs down.func)) down.args
+    ∷ reply_runs_fault d k down.runs
+    ∷ []
+faults_of d k upcall (replies.Ask ask) =
+    unless (is_awaited k ask.ticks) refusal.NotAwaited 0
+    ∷ ticks_fault k ask.ticks
+    ∷ unless (is_ask_place d ask.service ask.at) refusal.BadPlace 0
+    ∷ service_fault d k upcall (asked_of ask)
+    ∷ reply_runs_fault d k ask.runs
+    ∷ []
+faults_of d k upcall (replies.Stop stop) =
+    ticks_fault k stop.ticks
+    ∷ unless (is_user_place d stop.at) refusal.BadPlace 0
+    ∷ unless (is_stop stop.stop stop.ticks k.world.clock.rest) refusal.BadStop 0
+    ∷ reply_runs_fault d k stop.runs
+    ∷ []
+
+-- the first fault of a reply
+unfoldable pub fault_of : Driver → Kernel → Open → Rest → Reply → Option Fault
+fault_of d k upcall rest reply = first_fault (faults_of d k upcall reply)

@@ -17,7 +17,10 @@ use Rattle.mdr_meaning.specs.declared.wire.Wire.TheVariants as wire
 use Rattle.mdr_meaning.specs.Pointers.{size}
 use Rattle.mdr_meaning.specs.Tree.{Asked}
 use Rattle.mdr_model.specs.declared.message.New.{New}
+use Rattle.mdr_model.specs.declared.message.Run.{Run}
+use Rattle.mdr_model.specs.declared.reply.Ask.{Ask}
 use Rattle.mdr_model.specs.Agreement.{has, news_at}
+use Rattle.mdr_model.specs.Memory.{Memory, normal}
 use Rattle.mdr_split.specs.State.{Open}
 
 -- ---- the table
@@ -72,6 +75,19 @@ terms_of Combounlock = takes (type.Ptr type.Lock ∷ []) Nothing
 terms_of Bug = takes [] Nothing
 terms_of Enter = takes_shapes Births Pointers
 terms_of Leave = record { arguments = Objects; shapes = NoShape; bytes = 0; gives = Nothing }
+
+-- ---- a question, as a message carries it
+
+-- it is told with its arguments as they are now
+abbrev pub asked_now : Memory → Asked → Asked
+asked_now m asked = record asked { args = map (normal m) asked.args }
+
+abbrev pub ask_of : (ticks : ℕ) → Asked → List Run → Ask
+ask_of ticks asked runs =
+    record { ticks = ticks; at = asked.at; service = asked.service; args = asked.args; shapes = asked.shapes; bytes = asked.bytes; runs = runs }
+
+abbrev pub asked_of : Ask → Asked
+asked_of ask = record { service = ask.service; at = ask.at; args = ask.args; shapes = ask.shapes; bytes = ask.bytes }
 
 -- ---- what it is asked with
 

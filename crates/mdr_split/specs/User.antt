@@ -14,12 +14,15 @@ use Rattle.mdr_meaning.specs.Bodies.{started}
 use Rattle.mdr_meaning.specs.Tree.{Asked, Tree}
 use Rattle.mdr_meaning.specs.Walk.{Accesses, Reached, Walked, walk}
 use Rattle.mdr_model.specs.declared.memory.Cell.{Cell}
+use Rattle.mdr_model.specs.declared.message.Answer.{Answer}
+use Rattle.mdr_model.specs.declared.message.Back.{Back}
+use Rattle.mdr_model.specs.declared.message.Call.{Call}
 use Rattle.mdr_model.specs.declared.message.Message.{Message}
 use Rattle.mdr_model.specs.declared.message.Message.TheVariants as message
 use Rattle.mdr_model.specs.declared.message.New.{New}
 use Rattle.mdr_model.specs.declared.message.Run.{Run}
 use Rattle.mdr_model.specs.declared.message.SetRun.{SetRun}
-use Rattle.mdr_model.specs.declared.message.Told.{Told}
+use Rattle.mdr_model.specs.declared.reply.Reply.TheVariants as replies
 use Rattle.mdr_model.specs.Agreement.{has}
 use Rattle.mdr_model.specs.Copies.{agreed_after, changes, put_runs}
 use Rattle.mdr_model.specs.KernelState.{Reading}
@@ -30,7 +33,7 @@ use Rattle.mdr_model.specs.User.{allowance, lives_fit, renewed_copy, still_live}
 use Rattle.mdr_plain.specs.Storage.{first_memory, fresh, read}
 use Rattle.mdr_split.specs.Fits.{Places, fits, fits_result}
 use Rattle.mdr_split.specs.Legal.{args_fault, params_of, result_of, runs_fault}
-use Rattle.mdr_split.specs.Services.{leaving, less, results_fit}
+use Rattle.mdr_split.specs.Services.{ask_of, asked_now, leaving, less, results_fit}
 use Rattle.mdr_watched.specs.Driver.{Driver, is_user, touched_by}
 
 -- ---- states
@@ -95,28 +98,29 @@ abbrev pub is_deeper : List Down → (depth : ℕ) → Bool
 is_deeper [] depth = true
 is_deeper (down ∷ below) depth = nat_lt down.depth depth
 
-unfoldable pub call_fits : Driver → Memory → (entered : List ℕ) → List Down → ℕ → ℕ → List Wire → Told → Bool
-call_fits d copy entered below func depth args told =
-    let copy' : Memory = renewed_copy d.program told.deaths told.news copy in
-    is_deeper below depth
-    && (is_user d.plan func
-    && (nat_le depth 255
-    && (lives_fit d.program copy told.deaths told.news
-    && (objects_fit [] told.deaths entered
-    && (is_none (args_fault (fits (user_places d copy')) 0 (params_of (slice_get d.program.funcs func)) args)
-    && cells_fit d func copy' told.view told.runs)))))
+unfoldable pub call_fits : Driver → Memory → (entered : List ℕ) → List Down → Call → Bool
+call_fits d copy entered below call =
+    let copy' : Memory = renewed_copy d.program call.told.deaths call.told.news copy in
+    is_deeper below call.depth
+    && (is_user d.plan call.func
+    && (nat_le call.depth 255
+    && (lives_fit d.program copy call.told.deaths call.told.news
+    && (objects_fit [] call.told.deaths entered
+    && (is_none (args_fault (fits (user_places d copy')) 0 (params_of (slice_get d.program.funcs call.func)) call.args)
+    && cells_fit d call.func copy' call.told.view call.told.runs)))))
 
-unfoldable pub back_fits : Driver → Memory → (entered : List ℕ) → (stub func : ℕ) → Wire → Told → Bool
-back_fits d copy entered stub func result told =
-    let copy' : Memory = renewed_copy d.program told.deaths told.news copy in
-    lives_fit d.program copy told.deaths told.news
-    && (objects_fit [] told.deaths entered
-    && (fits_result (user_places d copy') (result_of (slice_get d.program.funcs func)) result
-    && cells_fit d stub copy' told.view told.runs))
+unfoldable pub back_fits : Driver → Memory → (entered : List ℕ) → (stub func : ℕ) → Back → Bool
+back_fits d copy entered stub func back =
+    let copy' : Memory = renewed_copy d.program back.told.deaths back.told.news copy in
+    lives_fit d.program copy back.told.deaths back.told.news
+    && (objects_fit [] back.told.deaths entered
+    && (fits_result (user_places d copy') (result_of (slice_get d.program.funcs func)) back.result
+    && cells_fit d stub copy' back.told.view back.told.runs))
 
-unfoldable pub answer_fits : Driver → Memory → (entered : List ℕ) → Asked → List Wire → List ℕ → List New → Bool
-answer_fits d copy entered asked results deaths news =
-    lives_fit d.program copy deaths news && (objects_fit (leaving asked.service asked.args) deaths entered && results_fit asked news results)
+unfoldable pub answer_fits : Driver → Memory → (entered : List ℕ) → Asked → Answer → Bool
+answer_fits d copy entered asked answer =
+    lives_fit d.program copy answer.deaths answer.news
+    && (objects_fit (leaving asked.service asked.args) answer.deaths entered && results_fit asked answer.news answer.results)
 
 -- ---- what a message opens
 
@@ -150,21 +154,26 @@ when_fits true opened = opened
 when_fits false opened = Refuses 3
 
 -- an upcall begins, below it what is open
-abbrev pub begun : Driver → ℕ → Memory → (entered : List ℕ) → List Down → (func depth rest : ℕ) → List Wire → Told → Opened
-begun d fuel copy entered below func depth rest args told =
-    when_fits (call_fits d copy entered below func depth args told)
-    (Runs (started d.user fuel func args depth Tree.Idle) rest func entered (cells_of_runs told.view) (agreed_after d.program told copy) below)
+abbrev pub begun : Driver → ℕ → Memory → (entered : List ℕ) → List Down → Call → Opened
+begun d fuel copy entered below call =
+    when_fits (call_fits d copy entered below call)
+    (Runs (started d.user fuel call.func call.args call.depth Tree.Idle) call.rest call.func entered (cells_of_runs call.told.view) (agreed_after d.program call.told copy) below)
+
+-- a downcall gives back
+abbrev pub resumed : Driver → Memory → (entered : List ℕ) → Down → List Down → Back → Opened
+resumed d copy entered down below back =
+    when_fits (back_fits d copy entered down.stub down.func back)
+    (Runs (down.goes back.result) back.rest down.stub entered (cells_of_runs back.told.view) (agreed_after d.program back.told copy) below)
 
 unfoldable pub opened : Driver → ℕ → Memory → (entered : List ℕ) → Work → Message → Opened
-opened d fuel copy entered Nothing (message.Call func depth rest args told) = begun d fuel copy entered [] func depth rest args told
-opened d fuel copy entered (AwaitsBack down below) (message.Call func depth rest args told) = begun d fuel copy entered (down ∷ below) func depth rest args told
-opened d fuel copy entered (AwaitsBack down below) (message.Back rest result told) =
-    when_fits (back_fits d copy entered down.stub down.func result told)
-    (Runs (down.goes result) rest down.stub entered (cells_of_runs told.view) (agreed_after d.program told copy) below)
-opened d fuel copy entered (AwaitsAnswer stub asked seen left goes below) (message.Answer results deaths news) =
-    when_fits (answer_fits d copy entered asked results deaths news)
-    (let copy' : Memory = renewed_copy d.program deaths news copy in
-    Runs (goes results) left stub (entered_behind asked.service deaths news entered) (grown d stub copy' news seen) copy' below)
+opened d fuel copy entered Nothing (message.Call call) = begun d fuel copy entered [] call
+opened d fuel copy entered (AwaitsBack down below) (message.Call call) = begun d fuel copy entered (down ∷ below) call
+opened d fuel copy entered (AwaitsBack down below) (message.Back back) = resumed d copy entered down below back
+opened d fuel copy entered (AwaitsAnswer stub asked seen left goes below) (message.Answer answer) =
+    when_fits (answer_fits d copy entered asked answer)
+    (let copy' : Memory = renewed_copy d.program answer.deaths answer.news copy in
+    let entered' : List ℕ = entered_behind asked.service answer.deaths answer.news entered in
+    Runs (goes answer.results) left stub entered' (grown d stub copy' answer.news seen) copy' below)
 opened d fuel copy entered work m = Refuses 2
 
 -- ---- the code of the user half
@@ -191,11 +200,11 @@ settled reply entered copy work = record { reply = reply; user = record { agreed
 
 -- an upcall ends
 abbrev pub gives_back : (ticks : ℕ) → Wire → List Run → (entered : List ℕ) → (copy : Memory) → List Down → Delivered
-gives_back ticks v runs entered copy below = settled (message.Return ticks v runs) entered (put_runs runs copy) (resting below)
+gives_back ticks v runs entered copy below = settled (message.Reply (replies.Return (record { ticks = ticks; result = v; runs = runs }))) entered (put_runs runs copy) (resting below)
 
 -- a stop ends all upcalls
 abbrev pub gives_up : (ticks stop : ℕ) → At → List Run → (entered : List ℕ) → (copy : Memory) → Delivered
-gives_up ticks stop at runs entered copy = settled (message.Stop ticks stop at runs) entered (put_runs runs copy) Nothing
+gives_up ticks stop at runs entered copy = settled (message.Reply (replies.Stop (record { ticks = ticks; stop = stop; at = at; runs = runs }))) entered (put_runs runs copy) Nothing
 
 -- what a walk of the user half tells: the ticks since the message, the event, and the visible cells that changed
 unfoldable pub replied : (stub : ℕ) → (entered : List ℕ) → List Cell → (rest : ℕ) → (copy m : Memory) → List Down → (left : ℕ) → Reached → Delivered
@@ -206,11 +215,11 @@ replied stub entered view rest copy m below left Reached.Idles = gives_back (res
 replied stub entered view rest copy m below left (Reached.Opens goes) = gives_back (rest - left) wire.NoValue (changes view copy m) entered copy below
 replied stub entered view rest copy m below left (Reached.Asks asked goes) =
     let runs : List Run = changes view copy m in
-    settled (message.Ask (rest - left) asked.at asked.service (map (normal m) asked.args) asked.shapes asked.bytes runs) entered (put_runs runs copy)
+    settled (message.Reply (replies.Ask (ask_of (rest - left) (asked_now m asked) runs))) entered (put_runs runs copy)
     (AwaitsAnswer stub asked view left goes below)
 replied stub entered view rest copy m below left (Reached.Crosses at func args depth goes) =
     let runs : List Run = changes view copy m in
-    settled (message.Down (rest - left) at depth func (map (normal m) args) runs) entered (put_runs runs copy)
+    settled (message.Reply (replies.Down (record { ticks = rest - left; at = at; depth = depth; func = func; args = map (normal m) args; runs = runs }))) entered (put_runs runs copy)
     (AwaitsBack (record { stub = stub; func = func; depth = depth; goes = goes }) below)
 
 abbrev pub replied_to : (stub : ℕ) → (entered : List ℕ) → List Cell → ℕ → Memory → List Down → Walked Memory → Delivered

@@ -1,20 +1,13 @@
 -- for proofs
 -- Small drivers in two halves, worked out: the messages of their runs.
-use Rattle.std.specs.Prelude.{◌≡◌, ℕ, Bool, true, false, List, [], ◌∷◌, codes, pos}
-use Rattle.mdr_core.specs.declared.kind.Kind.TheVariants.{U32}
+use Rattle.std.specs.Prelude.{◌≡◌, Bool, true, false, List, [], ◌∷◌, codes}
 use Rattle.mdr_core.specs.declared.plan.Key.TheVariants as key
 use Rattle.mdr_core.specs.declared.types.Ty.TheVariants as ty
-use Rattle.mdr_meaning.specs.declared.wire.Wire.{Wire}
-use Rattle.mdr_meaning.specs.declared.wire.Wire.TheVariants as wire
 use Rattle.mdr_meaning.specs.Sides.{Body}
-use Rattle.mdr_meaning.specs.Worked.{add, at_stmt, body, calls as calls_func, glob, node, node_pointer, number, u32}
-use Rattle.mdr_model.specs.declared.message.Message.{Message}
-use Rattle.mdr_model.specs.declared.message.Message.TheVariants as message
-use Rattle.mdr_model.specs.declared.message.Run.{Run}
-use Rattle.mdr_model.specs.declared.message.SetRun.{SetRun}
-use Rattle.mdr_model.specs.declared.message.Told.{Told}
+use Rattle.mdr_meaning.specs.Worked.{add, body, calls as calls_func, glob, node, node_pointer, number, u32}
 use Rattle.mdr_model.specs.declared.outcome.End.TheVariants as ends
 use Rattle.mdr_model.specs.Law.{read}
+use Rattle.mdr_model.specs.Worked.{bump_answers, bump_sent}
 use Rattle.mdr_plain.specs.Outcome.{outcome_of}
 use Rattle.mdr_plain.specs.Scripts.{finish}
 use Rattle.mdr_plain.specs.Worked.{calls, just, named, of_type, serves, zero_u32}
@@ -56,37 +49,6 @@ bump = with_stubs (true ∷ false ∷ [])
 
 abbrev pub call_open : Bound
 call_open = just (calls 1 ∷ [])
-
-abbrev pub u32_value : ℕ → Wire
-u32_value n = wire.Int U32 (pos n)
-
--- the one global, visible
-abbrev pub count_view : List SetRun
-count_view = record { serial = 0; first = 0; len = 1 } ∷ []
-
--- and its value
-abbrev pub count_is : ℕ → List Run
-count_is n = record { serial = 0; first = 0; values = u32_value n ∷ [] } ∷ []
-
--- a message that tells of it and of these changes, and of no births and deaths
-abbrev pub count_told : List Run → Told
-count_told runs = record { deaths = []; news = []; view = count_view; runs = runs }
-
-abbrev pub bump_sent : List Message
-bump_sent =
-    message.Call 1 0 1000000 [] (count_told [])
-    ∷ message.Back 999998 wire.NoValue (count_told (count_is 1))
-    ∷ message.Answer [] [] []
-    ∷ message.Back 999995 wire.NoValue (count_told (count_is 2))
-    ∷ []
-
-abbrev pub bump_answers : List Message
-bump_answers =
-    message.Down 1 (at_stmt 1 1) 1 0 [] []
-    ∷ message.Ask 1 (at_stmt 1 2) 5 (u32_value 1 ∷ u32_value 4 ∷ []) [] [] []
-    ∷ message.Down 1 (at_stmt 1 3) 1 0 [] []
-    ∷ message.Return 0 wire.NoValue []
-    ∷ []
 
 -- the eight messages: these are sent over these answers, these answers are honest, and the run is over with the outcome of the watched run
 pub record BumpSends : Type 0 where

@@ -7,7 +7,7 @@ use Rattle.mdr_meaning.specs.Cut.{cut}
 use Rattle.mdr_meaning.specs.Numbers.{is_same_type}
 use Rattle.mdr_model.specs.declared.outcome.End.TheVariants as ends
 use Rattle.mdr_model.specs.Law.{read}
-use Rattle.mdr_model.specs.Text.{value_text, new_text, run_text, set_run_text, told_text, shape_text, text}
+use Rattle.mdr_model.specs.Text.{answer_text, ask_text, back_text, call_text, down_text, new_text, reply_text, return_text, run_text, set_run_text, shape_text, told_text, text, value_text}
 use Rattle.mdr_model.specs.User.{allowance}
 use Rattle.mdr_model.specs.Xdr.{four, eight, item, opaque, listed}
 use Rattle.mdr_plain.specs.Atomic.{is_any_spinning, is_atomic}
@@ -87,7 +87,7 @@ calls_back_twice = record {
 }
 
 pub callback_spells : CallbackSpells
-unfolding four eight item opaque listed value_text new_text run_text set_run_text told_text shape_text text bit_of of_bits
+unfolding four eight item opaque listed value_text new_text run_text set_run_text told_text shape_text call_text return_text down_text back_text ask_text answer_text reply_text text bit_of of_bits
 callback_spells = record { sent = refl; answers = refl }
 
 pub may_not_call_back : MayNotCallBack

@@ -1,6 +1,7 @@
 -- A run of two halves where each message and each answer fits: its computing doesn't wait for the tests of types.
 use Rattle.std.proofs.Common.{◌≡◌, ℕ, Bool, true, List, [], ◌∷◌, Option, Some, None, Ok, refl, ◌∙◌, ap}
 use Rattle.mdr_model.specs.declared.command.Command.{Command}
+use Rattle.mdr_model.specs.declared.message.Call.{Call}
 use Rattle.mdr_model.specs.declared.message.Fault.{Fault}
 use Rattle.mdr_model.specs.declared.message.Message.{Message}
 use Rattle.mdr_model.specs.declared.message.Message.TheVariants as message
@@ -16,42 +17,44 @@ use Rattle.mdr_meaning.specs.Tree.{Tree}
 use Rattle.mdr_split.specs.Kernel.{SplitRun, judged, next, run_from_pending, taken}
 use Rattle.mdr_split.specs.Legal.{fault_of}
 use Rattle.mdr_split.specs.State.{Kernel, Open, Rest, Pending, Over, Waits}
-use Rattle.mdr_split.specs.User.{Delivered, Opened, Refuses, Runs, User, Work, Nothing, AwaitsAnswer, AwaitsBack, answer_fits, back_fits, call_fits, deliver, done, entered_behind, grown, opened, user_after, when_fits}
+use Rattle.mdr_split.specs.User.{Delivered, Down, Opened, Refuses, Runs, User, Work, Nothing, AwaitsAnswer, AwaitsBack, answer_fits, back_fits, call_fits, deliver, done, entered_behind, grown, opened, user_after, when_fits}
 use Rattle.mdr_watched.specs.Driver.{Driver}
 
 -- ---- the user half
 
 -- a message that is awaited fits
 abbrev pub fits_now : Driver → Memory → (entered : List ℕ) → Work → Message → Bool
-fits_now d copy entered Nothing (message.Call func depth rest args told) = call_fits d copy entered [] func depth args told
-fits_now d copy entered (AwaitsBack down below) (message.Call func depth rest args told) = call_fits d copy entered (down ∷ below) func depth args told
-fits_now d copy entered (AwaitsBack down below) (message.Back rest result told) = back_fits d copy entered down.stub down.func result told
-fits_now d copy entered (AwaitsAnswer stub asked seen left goes below) (message.Answer results deaths news) = answer_fits d copy entered asked results deaths news
+fits_now d copy entered Nothing (message.Call call) = call_fits d copy entered [] call
+fits_now d copy entered (AwaitsBack down below) (message.Call call) = call_fits d copy entered (down ∷ below) call
+fits_now d copy entered (AwaitsBack down below) (message.Back back) = back_fits d copy entered down.stub down.func back
+fits_now d copy entered (AwaitsAnswer stub asked seen left goes below) (message.Answer answer) = answer_fits d copy entered asked answer
 fits_now d copy entered work m = true
+
+-- the upcall that a call begins
+abbrev begins : Driver → ℕ → Memory → (entered : List ℕ) → List Down → Call → Opened
+begins d fuel copy entered below call =
+    Runs (started d.user fuel call.func call.args call.depth Tree.Idle) call.rest call.func entered (cells_of_runs call.told.view) (agreed_after d.program call.told copy) below
 
 -- what it opens then
 abbrev pub opens : Driver → ℕ → Memory → (entered : List ℕ) → Work → Message → Opened
-opens d fuel copy entered Nothing (message.Call func depth rest args told) =
-    Runs (started d.user fuel func args depth Tree.Idle) rest func entered (cells_of_runs told.view) (agreed_after d.program told copy) []
-opens d fuel copy entered (AwaitsBack down below) (message.Call func depth rest args told) =
-    Runs (started d.user fuel func args depth Tree.Idle) rest func entered (cells_of_runs told.view) (agreed_after d.program told copy) (down ∷ below)
-opens d fuel copy entered (AwaitsBack down below) (message.Back rest result told) =
-    Runs (down.goes result) rest down.stub entered (cells_of_runs told.view) (agreed_after d.program told copy) below
-opens d fuel copy entered (AwaitsAnswer stub asked seen left goes below) (message.Answer results deaths news) =
-    let copy' : Memory = renewed_copy d.program deaths news copy in
-    Runs (goes results) left stub (entered_behind asked.service deaths news entered) (grown d stub copy' news seen) copy' below
+opens d fuel copy entered Nothing (message.Call call) = begins d fuel copy entered [] call
+opens d fuel copy entered (AwaitsBack down below) (message.Call call) = begins d fuel copy entered (down ∷ below) call
+opens d fuel copy entered (AwaitsBack down below) (message.Back back) =
+    Runs (down.goes back.result) back.rest down.stub entered (cells_of_runs back.told.view) (agreed_after d.program back.told copy) below
+opens d fuel copy entered (AwaitsAnswer stub asked seen left goes below) (message.Answer answer) =
+    let copy' : Memory = renewed_copy d.program answer.deaths answer.news copy in
+    let entered' : List ℕ = entered_behind asked.service answer.deaths answer.news entered in
+    Runs (goes answer.results) left stub entered' (grown d stub copy' answer.news seen) copy' below
 opens d fuel copy entered work m = Refuses 2
 
 opens_so : (d : Driver) (fuel : ℕ) (copy : Memory) (entered : List ℕ) (work : Work) (m : Message) → fits_now d copy entered work m ≡ true → opened d fuel copy entered work m ≡ opens d fuel copy entered work m
 unfolding opened
-opens_so d fuel copy entered Nothing (message.Call func depth rest args told) e =
-    ap (λ (b : Bool). when_fits b (opens d fuel copy entered Nothing (message.Call func depth rest args told))) e
-opens_so d fuel copy entered (AwaitsBack down below) (message.Call func depth rest args told) e =
-    ap (λ (b : Bool). when_fits b (opens d fuel copy entered (AwaitsBack down below) (message.Call func depth rest args told))) e
-opens_so d fuel copy entered (AwaitsBack down below) (message.Back rest result told) e =
-    ap (λ (b : Bool). when_fits b (opens d fuel copy entered (AwaitsBack down below) (message.Back rest result told))) e
-opens_so d fuel copy entered (AwaitsAnswer stub asked seen left goes below) (message.Answer results deaths news) e =
-    ap (λ (b : Bool). when_fits b (opens d fuel copy entered (AwaitsAnswer stub asked seen left goes below) (message.Answer results deaths news))) e
+opens_so d fuel copy entered Nothing (message.Call call) e = ap (λ (b : Bool). when_fits b (begins d fuel copy entered [] call)) e
+opens_so d fuel copy entered (AwaitsBack down below) (message.Call call) e = ap (λ (b : Bool). when_fits b (begins d fuel copy entered (down ∷ below) call)) e
+opens_so d fuel copy entered (AwaitsBack down below) (message.Back back) e =
+    ap (λ (b : Bool). when_fits b (opens d fuel copy entered (AwaitsBack down below) (message.Back back))) e
+opens_so d fuel copy entered (AwaitsAnswer stub asked seen left goes below) (message.Answer answer) e =
+    ap (λ (b : Bool). when_fits b (opens d fuel copy entered (AwaitsAnswer stub asked seen left goes below) (message.Answer answer))) e
 opens_so d fuel copy entered work m e = refl
 
 abbrev pub fits_user : Driver → User → Message → Bool

@@ -3,14 +3,14 @@ use Rattle.std.proofs.Common.{◌≡◌, ℕ, suc, true, false, List, [], ◌∷
 use Rattle.mdr_core.specs.declared.types.Ty.TheVariants as ty
 use Rattle.mdr_meaning.specs.declared.wire.Wire.TheVariants as wire
 use Rattle.mdr_meaning.specs.Numbers.{is_same_type}
-use Rattle.mdr_meaning.specs.Worked.{at_stmt, u32}
+use Rattle.mdr_meaning.specs.Worked.{u32}
 use Rattle.mdr_meaning.proofs.NumberLaws.{type_same}
 use Rattle.mdr_model.specs.declared.memory.Cell.{Cell}
 use Rattle.mdr_model.specs.declared.message.BirthKind.TheVariants.{Static, Heap, Auto}
 use Rattle.mdr_model.specs.declared.outcome.End.TheVariants as ends
-use Rattle.mdr_model.specs.declared.reply.Reply.TheVariants as replies
 use Rattle.mdr_model.specs.Law.{read}
 use Rattle.mdr_model.specs.Memory.{Memory}
+use Rattle.mdr_model.specs.ReplyFaults.{reply_of}
 use Rattle.mdr_model.specs.User.{allowance}
 use Rattle.mdr_plain.specs.Outcome.{outcome_of}
 use Rattle.mdr_plain.specs.Scripts.{finish}
@@ -18,12 +18,11 @@ use Rattle.mdr_split.proofs.WorkedProofs.{passes}
 use Rattle.mdr_split.specs.AnyAnswers.{kernel_in}
 use Rattle.mdr_split.specs.Kernel.{SplitRun, first_kernel, split_commands, split_run}
 use Rattle.mdr_split.specs.Law.{IsHonest}
-use Rattle.mdr_split.specs.Legal.{fault_of}
 use Rattle.mdr_split.specs.State.{Kernel, Open, Noted, Pending}
 use Rattle.mdr_split.specs.User.{User, back_fits, first_user, user_after}
-use Rattle.mdr_split.specs.Worked.{u32_value}
-use Rattle.mdr_split_worked.proofs.Following.{AllFit, AllLegal, followed_so, legal_run, legal_so, replies_so}
-use Rattle.mdr_split_worked.specs.Worked.{TellsGraph, block, cells, end_of, graph, ring_and_work, graph_sent, graph_answers, graph_outcome, graph_copy, graph_call, graph_object, graph_back, graph_node, graph_gone, holds, node_at, seen_of, told, u32_at}
+use Rattle.mdr_model.specs.Worked.{u32_value}
+use Rattle.mdr_split_worked.proofs.Following.{AllFit, AllLegal, fault_now, followed_so, legal_run, legal_so, replies_so}
+use Rattle.mdr_split_worked.specs.Worked.{TellsGraph, block, end_of, graph, ring_and_work, graph_sent, graph_answers, graph_outcome, graph_copy, graph_call, graph_object, graph_back, graph_returned, graph_down, graph_leave, graph_node, graph_gone, node_at, u32_at}
 use Rattle.mdr_watched.specs.Watched.{watched_of}
 
 -- the types that pointers lead to don't compute
@@ -71,7 +70,7 @@ cell serial index = record { serial = serial; index = index }
 abbrev seen : List Cell → List Cell
 seen others = cell 0 0 ∷ cell 1 0 ∷ cell 2 0 ∷ cell 3 0 ∷ cell 4 0 ∷ cell 4 2 ∷ others
 
-back_fits_then : back_fits graph (shared 1) (7 ∷ []) 2 1 wire.NoValue (told (5 ∷ 6 ∷ []) [] (seen_of (cells 7 0 1 ∷ [])) (holds 1 0 (node_at 4) ∷ holds 7 0 (u32_value 5) ∷ [])) ≡ true
+back_fits_then : back_fits graph (shared 1) (7 ∷ []) 2 1 graph_returned ≡ true
 unfolding passes
 back_fits_then = rw (node_is_same) refl
 
@@ -89,12 +88,11 @@ kernel_at memory agreed view ticks rest exchanges = record {
   exchanges = exchanges;
 }
 
-down_is_legal : fault_of graph (kernel_at (shared 0) (shared 0) (seen (cell 5 0 ∷ cell 5 2 ∷ cell 7 0 ∷ [])) 6 999994 2) with_object Noted (replies.Down 2 (at_stmt 2 3) 1 1 (u32_at 7 ∷ []) (holds 2 0 (u32_value 1) ∷ [])) ≡ None
+down_is_legal : fault_now graph (kernel_at (shared 0) (shared 0) (seen (cell 5 0 ∷ cell 5 2 ∷ cell 7 0 ∷ [])) 6 999994 2) with_object Noted (reply_of graph_down) ≡ None
 unfolding passes
 down_is_legal = rw (word_is_same) refl
 
-leave_is_legal : fault_of graph (kernel_at (last 9) (last 0) (seen (cell 7 0 ∷ cell 8 0 ∷ cell 8 2 ∷ [])) 15 999985 4) with_object Noted
-    (replies.Ask 2 (at_stmt 2 0) 14 (u32_at 7 ∷ []) [] [] (holds 2 0 (u32_value 6) ∷ holds 4 2 (node_at 8) ∷ holds 8 2 (node_at 4) ∷ [])) ≡ None
+leave_is_legal : fault_now graph (kernel_at (last 9) (last 0) (seen (cell 7 0 ∷ cell 8 0 ∷ cell 8 2 ∷ [])) 15 999985 4) with_object Noted (reply_of graph_leave) ≡ None
 unfolding passes
 leave_is_legal = rw (word_is_same, node_is_same) refl
 

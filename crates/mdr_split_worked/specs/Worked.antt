@@ -21,6 +21,7 @@ use Rattle.mdr_meaning.specs.Worked.{add, at_stmt, body, calls as calls_func, fi
 use Rattle.mdr_model.specs.declared.memory.MemoryBlock.{MemoryBlock}
 use Rattle.mdr_model.specs.declared.message.BirthKind.{BirthKind}
 use Rattle.mdr_model.specs.declared.message.BirthKind.TheVariants.{Static, Heap, Auto}
+use Rattle.mdr_model.specs.declared.message.Back.{Back}
 use Rattle.mdr_model.specs.declared.message.Message.{Message}
 use Rattle.mdr_model.specs.declared.message.Message.TheVariants as message
 use Rattle.mdr_model.specs.declared.message.New.{New}
@@ -34,7 +35,7 @@ use Rattle.mdr_model.specs.Law.{read}
 use Rattle.mdr_model.specs.Memory.{Memory}
 use Rattle.mdr_model.specs.Text.{text}
 use Rattle.mdr_model.specs.User.{allowance}
-use Rattle.mdr_model.specs.Worked.{words}
+use Rattle.mdr_model.specs.Worked.{answer_message, ask_message, back_message, call_message, down_message, return_message, u32_value, words}
 use Rattle.mdr_plain.specs.declared.outcome.Happened.TheVariants as happened
 use Rattle.mdr_plain.specs.declared.outcome.Outcome.{Outcome}
 use Rattle.mdr_plain.specs.Outcome.{outcome_of}
@@ -49,7 +50,7 @@ use Rattle.mdr_split.specs.Kernel.{split_run}
 use Rattle.mdr_split.specs.Law.{IsHonest}
 use Rattle.mdr_split.specs.State.{Pending, Over, Waits}
 use Rattle.mdr_split.specs.User.{first_user, user_after}
-use Rattle.mdr_split.specs.Worked.{u32_value, with_stubs}
+use Rattle.mdr_split.specs.Worked.{with_stubs}
 use Rattle.mdr_watched.specs.Driver.{Driver}
 use Rattle.mdr_watched.specs.Watched.{watched_of}
 use Rattle.mdr_watched.specs.Worked.{began, cut, int, object, outcome, param_of, returned, word}
@@ -170,7 +171,7 @@ seen_of others = cells 0 0 1 ∷ cells 1 0 1 ∷ cells 2 0 1 ∷ cells 3 0 1 ∷
 -- the nodes point to each other; the block behind the opaque pointer is told, and not seen
 abbrev pub graph_call : Message
 graph_call =
-    message.Call 2 0 999995 []
+    call_message 2 0 999995 []
     (told []
     (new_node 4 ∷ new_node 5 ∷ record { serial = 6; kind = Heap; ty = 2; count = 1 } ∷ [])
     (seen_of (cells 5 0 1 ∷ cells 5 2 1 ∷ []))
@@ -178,31 +179,44 @@ graph_call =
 
 -- the object is born
 abbrev pub graph_object : Message
-graph_object = message.Answer (u32_at 7 ∷ []) [] (record { serial = 7; kind = Auto; ty = 2; count = 1 } ∷ [])
+graph_object = answer_message (u32_at 7 ∷ []) [] (record { serial = 7; kind = Auto; ty = 2; count = 1 } ∷ [])
 
 -- two blocks died, one of which was never seen: pointers to them die on both sides. The mark isn't told, nor what user code wrote itself
+abbrev pub graph_returned : Back
+graph_returned = record {
+  rest = 999987;
+  result = wire.NoValue;
+  told = told (5 ∷ 6 ∷ []) [] (seen_of (cells 7 0 1 ∷ [])) (holds 1 0 (node_at 4) ∷ holds 7 0 (u32_value 5) ∷ []);
+}
+
 abbrev pub graph_back : Message
-graph_back = message.Back 999987 wire.NoValue (told (5 ∷ 6 ∷ []) [] (seen_of (cells 7 0 1 ∷ [])) (holds 1 0 (node_at 4) ∷ holds 7 0 (u32_value 5) ∷ []))
+graph_back = message.Back graph_returned
 
 -- a node is born
 abbrev pub graph_node : Message
-graph_node = message.Answer (node_at 8 ∷ []) [] (new_node 8 ∷ [])
+graph_node = answer_message (node_at 8 ∷ []) [] (new_node 8 ∷ [])
 
 -- the object dies
 abbrev pub graph_gone : Message
-graph_gone = message.Answer [] (7 ∷ []) []
+graph_gone = answer_message [] (7 ∷ []) []
 
 abbrev pub graph_sent : List Message
 graph_sent = graph_call ∷ graph_object ∷ graph_back ∷ graph_node ∷ graph_gone ∷ []
 
+abbrev pub graph_down : Message
+graph_down = down_message 2 (at_stmt 2 3) 1 1 (u32_at 7 ∷ []) (holds 2 0 (u32_value 1) ∷ [])
+
+-- what was written through `last` is read through `head`, and the new node points back
+abbrev pub graph_leave : Message
+graph_leave = ask_message 2 (at_stmt 2 0) 14 (u32_at 7 ∷ []) [] (holds 2 0 (u32_value 6) ∷ holds 4 2 (node_at 8) ∷ holds 8 2 (node_at 4) ∷ [])
+
 abbrev pub graph_answers : List Message
 graph_answers =
-    message.Ask 1 (at_stmt 2 0) 13 [] (one 2 ∷ []) [] []
-    ∷ message.Down 2 (at_stmt 2 3) 1 1 (u32_at 7 ∷ []) (holds 2 0 (u32_value 1) ∷ [])
-    ∷ message.Ask 2 (at_stmt 2 5) 1 [] (one 9 ∷ []) [] (holds 4 0 (u32_value 5) ∷ [])
-    -- what was written through `last` is read through `head`, and the new node points back
-    ∷ message.Ask 2 (at_stmt 2 0) 14 (u32_at 7 ∷ []) [] [] (holds 2 0 (u32_value 6) ∷ holds 4 2 (node_at 8) ∷ holds 8 2 (node_at 4) ∷ [])
-    ∷ message.Return 0 wire.NoValue []
+    ask_message 1 (at_stmt 2 0) 13 [] (one 2 ∷ []) []
+    ∷ graph_down
+    ∷ ask_message 2 (at_stmt 2 5) 1 [] (one 9 ∷ []) (holds 4 0 (u32_value 5) ∷ [])
+    ∷ graph_leave
+    ∷ return_message 0 wire.NoValue []
     ∷ []
 
 abbrev pub graph_outcome : Outcome
@@ -263,19 +277,19 @@ both_seen = cells 0 0 1 ∷ cells 1 0 1 ∷ []
 
 abbrev pub timed_sent : List Message
 timed_sent =
-    message.Call 3 0 999999 [] (told [] [] both_seen [])
-    ∷ message.Answer [] [] []
-    ∷ message.Answer (u32_value 7 ∷ []) [] []
+    call_message 3 0 999999 [] (told [] [] both_seen [])
+    ∷ answer_message [] [] []
+    ∷ answer_message (u32_value 7 ∷ []) [] []
     -- no interrupt was taken
-    ∷ message.Back 999993 wire.NoValue (told [] [] both_seen (holds 1 0 (u32_value 8) ∷ []))
+    ∷ back_message 999993 wire.NoValue (told [] [] both_seen (holds 1 0 (u32_value 8) ∷ []))
     ∷ []
 
 abbrev pub timed_answers : List Message
 timed_answers =
-    message.Ask 1 (at_stmt 3 1) 5 (u32_value 1 ∷ u32_value 0 ∷ []) [] [] []
-    ∷ message.Ask 3 (at_stmt 3 4) 4 (u32_value 3 ∷ []) [] [] (holds 1 0 (u32_value 2) ∷ [])
-    ∷ message.Down 1 (at_stmt 3 5) 1 2 [] (holds 1 0 (u32_value 7) ∷ [])
-    ∷ message.Return 1 wire.NoValue []
+    ask_message 1 (at_stmt 3 1) 5 (u32_value 1 ∷ u32_value 0 ∷ []) [] []
+    ∷ ask_message 3 (at_stmt 3 4) 4 (u32_value 3 ∷ []) [] (holds 1 0 (u32_value 2) ∷ [])
+    ∷ down_message 1 (at_stmt 3 5) 1 2 [] (holds 1 0 (u32_value 7) ∷ [])
+    ∷ return_message 1 wire.NoValue []
     ∷ []
 
 abbrev pub timed_outcome : Outcome
@@ -357,27 +371,27 @@ log_seen = cells 1 0 1 ∷ []
 -- two functions are active where `fire` calls back. Of `j`, which `done` may not touch, the Back tells
 abbrev pub twice_sent : List Message
 twice_sent =
-    message.Call 2 0 1000000 [] (told [] [] all_seen [])
-    ∷ message.Call 0 2 999997 (u32_value 1 ∷ []) (told [] [] log_seen [])
-    ∷ message.Answer [] [] []
-    ∷ message.Back 999994 wire.NoValue (told [] [] all_seen (holds 0 0 (u32_value 1) ∷ []))
-    ∷ message.Call 0 2 999992 (u32_value 2 ∷ []) (told [] [] log_seen [])
-    ∷ message.Answer [] [] []
-    ∷ message.Back 999989 wire.NoValue (told [] [] all_seen (holds 0 0 (u32_value 2) ∷ []))
+    call_message 2 0 1000000 [] (told [] [] all_seen [])
+    ∷ call_message 0 2 999997 (u32_value 1 ∷ []) (told [] [] log_seen [])
+    ∷ answer_message [] [] []
+    ∷ back_message 999994 wire.NoValue (told [] [] all_seen (holds 0 0 (u32_value 1) ∷ []))
+    ∷ call_message 0 2 999992 (u32_value 2 ∷ []) (told [] [] log_seen [])
+    ∷ answer_message [] [] []
+    ∷ back_message 999989 wire.NoValue (told [] [] all_seen (holds 0 0 (u32_value 2) ∷ []))
     ∷ []
 
 -- with the first downcall goes the pointer that was set
 abbrev pub twice_first : Message
-twice_first = message.Down 2 (at_stmt 2 2) 1 1 (u32_value 1 ∷ []) (holds 2 0 (wire.Fn 0) ∷ [])
+twice_first = down_message 2 (at_stmt 2 2) 1 1 (u32_value 1 ∷ []) (holds 2 0 (wire.Fn 0) ∷ [])
 
 abbrev pub twice_later : List Message
 twice_later =
-    message.Ask 2 (at_stmt 0 2) 5 (u32_value 1 ∷ u32_value 3 ∷ []) [] [] (holds 1 0 (u32_value 1) ∷ [])
-    ∷ message.Return 0 wire.NoValue []
-    ∷ message.Down 1 (at_stmt 2 3) 1 1 (u32_value 2 ∷ []) []
-    ∷ message.Ask 2 (at_stmt 0 2) 5 (u32_value 2 ∷ u32_value 3 ∷ []) [] [] (holds 1 0 (u32_value 12) ∷ [])
-    ∷ message.Return 0 wire.NoValue []
-    ∷ message.Return 1 wire.NoValue (holds 1 0 (u32_value 14) ∷ [])
+    ask_message 2 (at_stmt 0 2) 5 (u32_value 1 ∷ u32_value 3 ∷ []) [] (holds 1 0 (u32_value 1) ∷ [])
+    ∷ return_message 0 wire.NoValue []
+    ∷ down_message 1 (at_stmt 2 3) 1 1 (u32_value 2 ∷ []) []
+    ∷ ask_message 2 (at_stmt 0 2) 5 (u32_value 2 ∷ u32_value 3 ∷ []) [] (holds 1 0 (u32_value 12) ∷ [])
+    ∷ return_message 0 wire.NoValue []
+    ∷ return_message 1 wire.NoValue (holds 1 0 (u32_value 14) ∷ [])
     ∷ []
 
 abbrev pub twice_answers : List Message

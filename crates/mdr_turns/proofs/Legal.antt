@@ -83,23 +83,23 @@ are_left k ticks e = leb-true ticks k.world.clock.rest (unless_passes (nat_le ti
 
 -- the ticks that a reply tells
 abbrev pub ticks_told : Reply → ℕ
-ticks_told (replies.Return ticks result runs) = ticks
-ticks_told (replies.Down ticks at depth func args runs) = ticks
-ticks_told (replies.Ask ticks at service args shapes bytes runs) = ticks
-ticks_told (replies.Stop ticks number at runs) = ticks
+ticks_told (replies.Return return) = return.ticks
+ticks_told (replies.Down down) = down.ticks
+ticks_told (replies.Ask ask) = ask.ticks
+ticks_told (replies.Stop stop) = stop.ticks
 
 module _ (d : Driver) (k : Kernel) (upcall : Open) (rest : Rest) where
   ticks_left : (reply : Reply) → fault_of d k upcall rest reply ≡ None → ticks_told reply ≤ k.world.clock.rest
-  ticks_left (replies.Return ticks result runs) e = are_left k ticks (faultless d k upcall rest (replies.Return ticks result runs) e).0
-  ticks_left (replies.Down ticks at depth func args runs) e = are_left k ticks (faultless d k upcall rest (replies.Down ticks at depth func args runs) e).1.0
-  ticks_left (replies.Ask ticks at service args shapes bytes runs) e = are_left k ticks (faultless d k upcall rest (replies.Ask ticks at service args shapes bytes runs) e).1.0
-  ticks_left (replies.Stop ticks number at runs) e = are_left k ticks (faultless d k upcall rest (replies.Stop ticks number at runs) e).0
+  ticks_left (replies.Return return) e = are_left k return.ticks (faultless d k upcall rest (replies.Return return) e).0
+  ticks_left (replies.Down down) e = are_left k down.ticks (faultless d k upcall rest (replies.Down down) e).1.0
+  ticks_left (replies.Ask ask) e = are_left k ask.ticks (faultless d k upcall rest (replies.Ask ask) e).1.0
+  ticks_left (replies.Stop stop) e = are_left k stop.ticks (faultless d k upcall rest (replies.Stop stop) e).0
 
   told_faultless : (reply : Reply) → fault_of d k upcall rest reply ≡ None → reply_runs_fault d k (runs_told reply) ≡ None
-  told_faultless (replies.Return ticks result runs) e = (faultless d k upcall rest (replies.Return ticks result runs) e).1.1.1.0
-  told_faultless (replies.Down ticks at depth func args runs) e = (faultless d k upcall rest (replies.Down ticks at depth func args runs) e).1.1.1.1.1.1.0
-  told_faultless (replies.Ask ticks at service args shapes bytes runs) e = (faultless d k upcall rest (replies.Ask ticks at service args shapes bytes runs) e).1.1.1.1.0
-  told_faultless (replies.Stop ticks number at runs) e = (faultless d k upcall rest (replies.Stop ticks number at runs) e).1.1.1.0
+  told_faultless (replies.Return return) e = (faultless d k upcall rest (replies.Return return) e).1.1.1.0
+  told_faultless (replies.Down down) e = (faultless d k upcall rest (replies.Down down) e).1.1.1.1.1.1.0
+  told_faultless (replies.Ask ask) e = (faultless d k upcall rest (replies.Ask ask) e).1.1.1.1.0
+  told_faultless (replies.Stop stop) e = (faultless d k upcall rest (replies.Stop stop) e).1.1.1.0
 
   -- of a reply that is this one
   pub told_within : (reply told : Reply) → fault_of d k upcall rest reply ≡ None → reply ≡ told → ticks_told told ≤ k.world.clock.rest

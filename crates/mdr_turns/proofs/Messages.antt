@@ -15,7 +15,7 @@ use Rattle.mdr_turns.specs.declared.state.Open.{Open as CodeOpen}
 use Rattle.mdr_turns.specs.declared.state.Pending.{Pending as CodePending}
 use Rattle.mdr_turns.specs.declared.state.Seen.{Seen}
 use Rattle.mdr_turns.specs.Coming.{ComesTo}
-use Rattle.mdr_turns.specs.States.{IsSeen, begins, kernel_with, rest_of, sent_with, told_by, told_unseen, upcall_of}
+use Rattle.mdr_turns.specs.States.{IsSeen, answer_of, back_of, begins, kernel_with, rest_of, sent_with, told_by, told_unseen, upcall_of}
 use Rattle.mdr_watched.specs.Driver.{Driver}
 use Rattle.mdr_watched.specs.Views.{top}
 use Rattle.mdr_world.specs.Driven.{Driven}
@@ -31,25 +31,25 @@ module _ (d : Driver) (s : Seen) (is : IsSeen s) (l l' : Ledger) (o : Open) (res
   unseen_so : (values : List Wire) → told_unseen d.program s values l ≡ tells d.program [] values l.agreed w.memory
   unseen_so values = λ i. tells d.program [] values l.agreed (is.memory i)
 
-  pub call_is : (f depth : ℕ) (args : List Wire) → o ≡ begins f depth → m ≡ message.Call f depth s.tally.rest args (told_by d.program s args l) → l' ≡ sent_with d.program (told_by d.program s args l) l
+  pub call_is : (f depth : ℕ) (args : List Wire) → o ≡ begins f depth → m ≡ message.Call (record { func = f; depth = depth; rest = s.tally.rest; args = args; told = told_by d.program s args l }) → l' ≡ sent_with d.program (told_by d.program s args l) l
       → Waits m (kernel_with l' w) o rest left ≡ called d f depth args (done w) (kernel_with l before) rest left
   call_is f depth args opens says keeps =
       (λ i. Waits (says i) (kernel_with (keeps i) w) (opens i) rest left)
-      ∙ (λ i. Waits (message.Call f depth (is.rest i) args (told_so args i)) (kernel_with (sent_with d.program (told_so args i) l) w) (begins f depth) rest left)
+      ∙ (λ i. Waits (message.Call (record { func = f; depth = depth; rest = is.rest i; args = args; told = told_so args i })) (kernel_with (sent_with d.program (told_so args i) l) w) (begins f depth) rest left)
 
-  pub back_is : (v : Wire) → m ≡ message.Back s.tally.rest v (told_by d.program s (v ∷ []) l) → l' ≡ sent_with d.program (told_by d.program s (v ∷ []) l) l
+  pub back_is : (v : Wire) → m ≡ back_of d.program v s l → l' ≡ sent_with d.program (told_by d.program s (v ∷ []) l) l
       → Waits m (kernel_with l' w) o rest left ≡ comes_back d v w (kernel_with l before) o rest left
   unfolding comes_back
   back_is v says keeps =
       (λ i. Waits (says i) (kernel_with (keeps i) w) o rest left)
-      ∙ (λ i. Waits (message.Back (is.rest i) v (told_so (v ∷ []) i)) (kernel_with (sent_with d.program (told_so (v ∷ []) i) l) w) o rest left)
+      ∙ (λ i. Waits (message.Back (record { rest = is.rest i; result = v; told = told_so (v ∷ []) i })) (kernel_with (sent_with d.program (told_so (v ∷ []) i) l) w) o rest left)
 
-  pub answer_is : (vs : List Wire) → m ≡ message.Answer vs (told_unseen d.program s vs l).deaths (told_unseen d.program s vs l).news → l' ≡ sent_with d.program (told_unseen d.program s vs l) l
+  pub answer_is : (vs : List Wire) → m ≡ answer_of d.program vs s l → l' ≡ sent_with d.program (told_unseen d.program s vs l) l
       → Waits m (kernel_with l' w) o rest left ≡ answers d vs w (kernel_with l before) o rest left
   unfolding answers
   answer_is vs says keeps =
       (λ i. Waits (says i) (kernel_with (keeps i) w) o rest left)
-      ∙ ap (λ (t : Told). Waits (message.Answer vs t.deaths t.news) (kernel_with (sent_with d.program t l) w) o rest left) (unseen_so vs)
+      ∙ ap (λ (t : Told). Waits (message.Answer (record { results = vs; deaths = t.deaths; news = t.news })) (kernel_with (sent_with d.program t l) w) o rest left) (unseen_so vs)
 
 -- ---- from what was seen
 

@@ -11,6 +11,7 @@ use Rattle.mdr_meaning.specs.Tree.{Asked}
 use Rattle.mdr_model.specs.declared.command.Command.{Command}
 use Rattle.mdr_model.specs.declared.memory.Cell.{Cell}
 use Rattle.mdr_model.specs.declared.outcome.End.{End}
+use Rattle.mdr_model.specs.declared.reply.Down.{Down as Downcall}
 use Rattle.mdr_model.specs.Memory.{normal}
 use Rattle.mdr_plain.specs.Scripts.{begin, returned}
 use Rattle.mdr_plain.specs.Running.{Went as AnyWent, Gave, interrupts}
@@ -102,8 +103,9 @@ abbrev pub down_begins : Driver → World → At → (func : ℕ) (args : List W
 down_begins d w at func args depth = down_goes d at func args (runs_kernel d (kernel_tree d func args depth w) w)
 
 -- and by a reply, with its arguments as they are now
-abbrev pub goes_down : Driver → Active → At → (func : ℕ) (args : List Wire) (depth : ℕ) → (script : List Command) → Pending
-goes_down d a at func args depth script = from_active d a script (down_begins d a.guarded.world at func (map (normal a.guarded.world.memory) args) depth)
+abbrev pub goes_down : Driver → Active → Downcall → (script : List Command) → Pending
+goes_down d a down script =
+    from_active d a script (down_begins d a.guarded.world down.at down.func (map (normal a.guarded.world.memory) down.args) down.depth)
 
 -- ---- an upcall returns
 

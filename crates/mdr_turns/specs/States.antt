@@ -149,9 +149,19 @@ told_by program s values l = tells program s.view values l.agreed s.memory
 abbrev pub told_unseen : Program → Seen → (values : List Wire) → Ledger → Told
 told_unseen program s values l = tells program [] values l.agreed s.memory
 
--- the message of an upcall
+-- the message of an upcall, and those with the result of a downcall and with the results of a service
 abbrev pub call_of : Program → Callee → Seen → Ledger → Message
-call_of program c s l = message.Call c.func c.depth s.tally.rest (wires_of c.args.now) (told_by program s (wires_of c.args.now) l)
+call_of program c s l =
+    let args : List Wire = wires_of c.args.now in
+    message.Call (record { func = c.func; depth = c.depth; rest = s.tally.rest; args = args; told = told_by program s args l })
+
+abbrev pub back_of : Program → Wire → Seen → Ledger → Message
+back_of program v s l = message.Back (record { rest = s.tally.rest; result = v; told = told_by program s (v ∷ []) l })
+
+abbrev pub answer_of : Program → (results : List Wire) → Seen → Ledger → Message
+answer_of program results s l =
+    let told : Told = told_unseen program s results l in
+    message.Answer (record { results = results; deaths = told.deaths; news = told.news })
 
 -- an upcall begins, in which no object was born
 abbrev pub begins : (func depth : ℕ) → Open

@@ -4,8 +4,7 @@ ghost use Rattle.std.specs.Prelude.{◌≡◌, IfOk};
 ghost use Rattle.mdr_core.specs.Sound.{IsSound};
 ghost use Rattle.mdr_events.specs.Events.{asked_as};
 ghost use Rattle.mdr_events.specs.Values.{wires_of};
-ghost use Rattle.mdr_meaning.specs.Lives.{asked_for};
-ghost use Rattle.mdr_split.specs.Services.{counted};
+ghost use Rattle.mdr_split.specs.Services.{asked_of, counted};
 ghost use Rattle.mdr_watch.specs.Watching.{driver_in};
 ghost use Rattle.mdr_turns.specs.Coming.{ComesAlways, IsServed, KeptFor, OfEachAsked, asks};
 ghost use Rattle.mdr_turns.specs.States.{IsActive, upcall_of};
@@ -14,11 +13,11 @@ use crate::ending::over_in;
 use crate::replies::given;
 use crate::sending::answer_told;
 use crate::state::{Active, Open, Pending};
-use mdr_core::{At, Items, OutOfMemory, Value};
+use mdr_core::{Items, OutOfMemory, Value};
 use mdr_events::Asked;
 use mdr_fits::entered_after;
 use mdr_kernel_memory::wires_of;
-use mdr_model::{End, Shape64, Wire};
+use mdr_model::{Ask, End, Wire};
 use mdr_services::Served;
 use mdr_watch::{Upcall, Watch, ask};
 use std::alloc::Global;
@@ -109,19 +108,24 @@ fn served<'a>(
 pub(crate) fn asks<'a>(
     alloc: Global,
     watch: Watch<'a>,
-    at: At,
-    service: u32,
-    args: &[Wire],
-    shapes: Items<Shape64>,
-    bytes: Items<u8>,
+    ask: Ask,
     active: Active<'a>,
 ) -> Result<Pending<'a>, OutOfMemory>
     requires sound { IsSound watch.program.now }
     requires active { IsActive watch active }
     ensures kept { IfOk result (KeptFor watch.entry) }
-    ensures comes { IfOk result (λ p. ComesAlways (driver_in watch.entry) p (asks (driver_in watch.entry) active.entry (asked_for service at args.now shapes bytes))) }
+    ensures comes { IfOk result (λ p. ComesAlways (driver_in watch.entry) p (asks (driver_in watch.entry) active.entry (asked_of ask))) }
 {
-    match given(alloc, &active.guarded, args) {
+    let Ask {
+        service,
+        at,
+        args,
+        shapes,
+        bytes,
+        ..
+    } = ask;
+    let wires = args.as_slice();
+    match given(alloc, &active.guarded, wires) {
         Ok(values) => {
             let asked = Asked {
                 service,
@@ -130,7 +134,7 @@ pub(crate) fn asks<'a>(
                 shapes,
                 bytes,
             };
-            let pending = served(alloc, watch, args, &asked, active);
+            let pending = served(alloc, watch, wires, &asked, active);
             drop(asked);
             pending
         }

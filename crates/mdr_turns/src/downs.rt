@@ -11,9 +11,9 @@ ghost use Rattle.mdr_turns.specs.States.{IsActive};
 use crate::backs::down_went;
 use crate::replies::given;
 use crate::state::{Active, Pending};
-use mdr_core::{At, Items, OutOfMemory, Value};
+use mdr_core::{Items, OutOfMemory, Value};
 use mdr_events::Crossing;
-use mdr_model::Wire;
+use mdr_model::{Down, Wire};
 use mdr_watch::{Guarded, Watch, enter_below, sent};
 use std::alloc::Global;
 
@@ -54,25 +54,22 @@ fn passed(alloc: Global, guarded: &Guarded, args: &[Wire]) -> Result<Items<Value
 pub(crate) fn goes_down<'a>(
     alloc: Global,
     watch: Watch<'a>,
-    at: At,
-    depth: u32,
-    func: u32,
-    args: &[Wire],
+    down: &Down,
     active: Active<'a>,
 ) -> Result<Pending<'a>, OutOfMemory>
     requires sound { IsSound watch.program.now }
     requires fit { IsFit watch }
     requires active { IsActive watch active }
     ensures kept { IfOk result (KeptFor watch.entry) }
-    ensures comes { IfOk result (λ p. ComesAlways (driver_in watch.entry) p (goes_down (driver_in watch.entry) active.entry at func args.now depth)) }
+    ensures comes { IfOk result (λ p. ComesAlways (driver_in watch.entry) p (goes_down (driver_in watch.entry) active.entry down.now)) }
 {
-    match passed(alloc, &active.guarded, args) {
+    match passed(alloc, &active.guarded, down.args.as_slice()) {
         Ok(args) => {
             let crossing = Crossing {
-                at,
-                func,
+                at: down.at,
+                func: down.func,
                 args,
-                depth,
+                depth: down.depth,
             };
             crossed(alloc, watch, crossing, active)
         }

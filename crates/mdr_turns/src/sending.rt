@@ -3,20 +3,19 @@
 ghost use Rattle.std.specs.Prelude.{◌≡◌, [], ◌∷◌, IfOk};
 ghost use Rattle.mdr_events.specs.Values.{wires_of};
 ghost use Rattle.mdr_meaning.specs.Values.{wire_of};
-ghost use Rattle.mdr_model.specs.declared.message.Message.TheVariants as message;
 ghost use Rattle.mdr_model.specs.Copies.{tells};
 ghost use Rattle.mdr_plain.specs.World.{done};
 ghost use Rattle.mdr_split.specs.Kernel.{answers, comes_back};
 ghost use Rattle.mdr_watch.specs.Watching.{driver_in};
 ghost use Rattle.mdr_turns.specs.Coming.{ActiveGoesOn, WaitingGoesOn, KeptFor, TellsCall};
-ghost use Rattle.mdr_turns.specs.States.{IsActive, StandsFor, begins, call_of, sent_with, told_by, told_unseen, upcall_of};
+ghost use Rattle.mdr_turns.specs.States.{IsActive, StandsFor, answer_of, back_of, begins, call_of, sent_with, told_by, told_unseen, upcall_of};
 
 use crate::seeing::seen;
 use crate::state::{Active, Callee, Ledger, Pending, Seen, Waiting};
 use mdr_copy::{RisingBlocks, tells, wire_of};
 use mdr_core::{Items, Limit, OutOfMemory, Program, Value, below};
 use mdr_kernel_memory::wires_of;
-use mdr_model::{Cell, Message, Told, Wire};
+use mdr_model::{Answer, Back, Call, Cell, Message, Told, Wire};
 use mdr_watch::Watch;
 use std::alloc::Global;
 
@@ -58,13 +57,13 @@ fn call_message(
     let view = seen.view.as_slice();
     let memory = &seen.memory;
     let told = tell(alloc, program, view, memory, args.as_slice(), ledger)?;
-    Ok(Message::Call {
+    Ok(Message::Call(Call {
         func: callee.func,
         depth: callee.depth,
         rest: seen.tally.rest,
         args,
         told,
-    })
+    }))
 }
 
 /// It is sent.
@@ -116,17 +115,17 @@ fn back_message(
     seen: &Seen,
     ledger: &mut Ledger,
 ) -> Result<Message, OutOfMemory>
-    ensures is { IfOk result (λ m. m ≡ message.Back seen.now.tally.rest value (told_by program.now seen.now (value ∷ []) ledger.old)) }
+    ensures is { IfOk result (λ m. m ≡ back_of program.now value seen.now ledger.old) }
     ensures kept { IfOk result (λ m. ledger.new ≡ sent_with program.now (told_by program.now seen.now (value ∷ []) ledger.old) ledger.old) }
 {
     let view = seen.view.as_slice();
     let memory = &seen.memory;
     let told = tell(alloc, program, view, memory, &[value], ledger)?;
-    Ok(Message::Back {
+    Ok(Message::Back(Back {
         rest: seen.tally.rest,
         result: value,
         told,
-    })
+    }))
 }
 
 /// It is sent.
@@ -176,16 +175,16 @@ fn answer_message(
     seen: &Seen,
     ledger: &mut Ledger,
 ) -> Result<Message, OutOfMemory>
-    ensures is { IfOk result (λ m. m ≡ message.Answer results (told_unseen program.now seen.now results ledger.old).deaths (told_unseen program.now seen.now results ledger.old).news) }
+    ensures is { IfOk result (λ m. m ≡ answer_of program.now results seen.now ledger.old) }
     ensures kept { IfOk result (λ m. ledger.new ≡ sent_with program.now (told_unseen program.now seen.now results ledger.old) ledger.old) }
 {
     let memory = &seen.memory;
     let told = tell(alloc, program, &[], memory, results.as_slice(), ledger)?;
-    Ok(Message::Answer {
+    Ok(Message::Answer(Answer {
         results,
         deaths: told.deaths,
         news: told.news,
-    })
+    }))
 }
 
 /// It is sent.

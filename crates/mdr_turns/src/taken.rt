@@ -12,11 +12,10 @@ use crate::applied::applied;
 use crate::asks::asks;
 use crate::downs::goes_down;
 use crate::ending::over_in;
-use crate::replies::stop_of;
 use crate::returns::continued;
 use crate::state::{Active, Pending};
-use mdr_core::OutOfMemory;
-use mdr_model::{Command, End, Reply};
+use mdr_core::{OutOfMemory, StopKind};
+use mdr_model::{Command, End, Reply, user_stop};
 use mdr_watch::Watch;
 use std::alloc::Global;
 
@@ -37,54 +36,22 @@ pub(crate) fn taken<'a>(
     ensures comes { IfOk result (λ p. ComesTo (driver_in watch.entry) p script.now (from_active (driver_in watch.entry) active.entry script.now (taken (driver_in watch.entry) reply))) }
 {
     match reply {
-        Reply::Return {
-            ticks,
-            result: wire,
-            runs,
-        } => {
-            let active = applied(active, ticks, runs.as_slice());
-            continued(alloc, watch, script, wire, active)
+        Reply::Return(returned) => {
+            let active = applied(active, returned.ticks, returned.runs.as_slice());
+            continued(alloc, watch, script, returned.result, active)
         }
-        Reply::Down {
-            ticks,
-            at,
-            depth,
-            func,
-            args,
-            runs,
-        } => {
-            let active = applied(active, ticks, runs.as_slice());
-            goes_down(alloc, watch, at, depth, func, args.as_slice(), active)
+        Reply::Down(down) => {
+            let active = applied(active, down.ticks, down.runs.as_slice());
+            goes_down(alloc, watch, &down, active)
         }
-        Reply::Ask {
-            ticks,
-            at,
-            service,
-            args,
-            shapes,
-            bytes,
-            runs,
-        } => {
-            let active = applied(active, ticks, runs.as_slice());
-            asks(
-                alloc,
-                watch,
-                at,
-                service,
-                args.as_slice(),
-                shapes,
-                bytes,
-                active,
-            )
+        Reply::Ask(ask) => {
+            let active = applied(active, ask.ticks, ask.runs.as_slice());
+            asks(alloc, watch, ask, active)
         }
-        Reply::Stop {
-            ticks,
-            stop,
-            at,
-            runs,
-        } => {
-            let active = applied(active, ticks, runs.as_slice());
-            Ok(over_in(End::Stop(stop_of(stop), Some(at)), active))
+        Reply::Stop(said) => {
+            let active = applied(active, said.ticks, said.runs.as_slice());
+            let kind = user_stop(said.stop).unwrap_or(StopKind::Bug);
+            Ok(over_in(End::Stop(kind, Some(said.at)), active))
         }
     }
 }

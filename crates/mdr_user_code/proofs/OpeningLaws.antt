@@ -8,9 +8,11 @@ use Rattle.mdr_meaning.specs.declared.wire.Wire.{Wire}
 use Rattle.mdr_meaning.specs.Bodies.{started}
 use Rattle.mdr_meaning.specs.Tree.{Tree}
 use Rattle.mdr_model.specs.declared.memory.Cell.{Cell}
+use Rattle.mdr_model.specs.declared.message.Answer.{Answer}
+use Rattle.mdr_model.specs.declared.message.Back.{Back}
+use Rattle.mdr_model.specs.declared.message.Call.{Call}
 use Rattle.mdr_model.specs.declared.message.Message.{Message}
 use Rattle.mdr_model.specs.declared.message.Message.TheVariants as message
-use Rattle.mdr_model.specs.declared.message.New.{New}
 use Rattle.mdr_model.specs.declared.message.Told.{Told}
 use Rattle.mdr_model.specs.Copies.{agreed_after, put_runs}
 use Rattle.mdr_model.specs.Memory.{Memory}
@@ -29,7 +31,7 @@ use Rattle.mdr_user_code.specs.declared.state.Downcall.{Downcall}
 use Rattle.mdr_user_code.specs.declared.state.Question.{Question}
 use Rattle.mdr_user_code.specs.declared.state.State.{State}
 use Rattle.mdr_user_code.specs.Opening.{and_then, answer_copy, answered_by, args_fit, back_sight, below_for, call_sight, calls_deeper, func_for, grown_sight, is_answered, may_enter, only_if, opening_for, opening_of, opens_as, result_fits, suspended_by, tree_for, where_so}
-use Rattle.mdr_user_code.specs.Standing.{downs_of, held_in, kept_by, user_of}
+use Rattle.mdr_user_code.specs.Standing.{asked_of, downs_of, held_in, kept_by, user_of}
 
 -- ---- tests in another order
 
@@ -61,29 +63,32 @@ swapped false false z v = refl
 abbrev sight_of : List Cell → Memory → Sight
 sight_of view copy = record { view = view; copy = copy }
 
-call_sight_is : (d : Driver) (copy : Memory) (entered : List ℕ) (func depth : ℕ) (args : List Wire) (told : Told)
-    → call_sight d copy entered func depth args told ≡ only_if (call_fits d copy entered [] func depth args told) (sight_of (cells_of_runs told.view) (agreed_after d.program told copy))
+call_sight_is : (d : Driver) (copy : Memory) (entered : List ℕ) (call : Call)
+    → call_sight d copy entered call ≡ only_if (call_fits d copy entered [] call) (sight_of (cells_of_runs call.told.view) (agreed_after d.program call.told copy))
 unfolding call_sight call_fits agreed_after
-call_sight_is d copy entered func depth args told =
-    ap (where_so (may_enter d.plan func depth))
-    (tests (objects_fit [] told.deaths entered) (lives_fit d.program copy told.deaths told.news) (renewed_copy d.program told.deaths told.news copy) (λ m. args_fit d.program m func args) (λ m. cells_fit d func m told.view told.runs)
-    (λ m. sight_of (cells_of_runs told.view) (put_runs told.runs m))
+call_sight_is d copy entered call =
+    let told : Told = call.told in
+    ap (where_so (may_enter d.plan call.func call.depth))
+    (tests (objects_fit [] told.deaths entered) (lives_fit d.program copy told.deaths told.news) (renewed_copy d.program told.deaths told.news copy) (λ m. args_fit d.program m call.func call.args)
+    (λ m. cells_fit d call.func m told.view told.runs) (λ m. sight_of (cells_of_runs told.view) (put_runs told.runs m))
     ∙ swapped (objects_fit [] told.deaths entered) (lives_fit d.program copy told.deaths told.news) _ _)
-    ∙ two_tests (may_enter d.plan func depth) _ _
-    ∙ both_first (is_user d.plan func) (nat_le depth 255) _ _
+    ∙ two_tests (may_enter d.plan call.func call.depth) _ _
+    ∙ both_first (is_user d.plan call.func) (nat_le call.depth 255) _ _
 
-back_sight_is : (d : Driver) (copy : Memory) (stub : ℕ) (entered : List ℕ) (func : ℕ) (v : Wire) (told : Told)
-    → back_sight d copy stub entered func v told ≡ only_if (back_fits d copy entered stub func v told) (sight_of (cells_of_runs told.view) (agreed_after d.program told copy))
+back_sight_is : (d : Driver) (copy : Memory) (stub : ℕ) (entered : List ℕ) (func : ℕ) (back : Back)
+    → back_sight d copy stub entered func back ≡ only_if (back_fits d copy entered stub func back) (sight_of (cells_of_runs back.told.view) (agreed_after d.program back.told copy))
 unfolding back_sight back_fits agreed_after
-back_sight_is d copy stub entered func v told =
-    tests (objects_fit [] told.deaths entered) (lives_fit d.program copy told.deaths told.news) (renewed_copy d.program told.deaths told.news copy) (λ m. result_fits d.program m func v) (λ m. cells_fit d stub m told.view told.runs)
-    (λ m. sight_of (cells_of_runs told.view) (put_runs told.runs m))
+back_sight_is d copy stub entered func back =
+    let told : Told = back.told in
+    tests (objects_fit [] told.deaths entered) (lives_fit d.program copy told.deaths told.news) (renewed_copy d.program told.deaths told.news copy) (λ m. result_fits d.program m func back.result)
+    (λ m. cells_fit d stub m told.view told.runs) (λ m. sight_of (cells_of_runs told.view) (put_runs told.runs m))
     ∙ swapped (objects_fit [] told.deaths entered) (lives_fit d.program copy told.deaths told.news) _ _
 
-answer_copy_is : (d : Driver) (s : State) (q : Question) (results : List Wire) (deaths : List ℕ) (news : List New)
-    → answer_copy d s q results deaths news ≡ only_if (answer_fits d s.memory.agreed s.entered (record { service = q.service; at = q.at; args = q.args; shapes = q.shapes; bytes = q.bytes }) results deaths news) (renewed_copy d.program deaths news s.memory.agreed)
+answer_copy_is : (d : Driver) (s : State) (q : Question) (answer : Answer)
+    → answer_copy d s q answer ≡ only_if (answer_fits d s.memory.agreed s.entered (asked_of q) answer) (renewed_copy d.program answer.deaths answer.news s.memory.agreed)
 unfolding answer_copy answer_fits
-answer_copy_is d s q results deaths news = other_order (is_answered q s.entered results deaths news) (lives_fit d.program s.memory.agreed deaths news) (renewed_copy d.program deaths news s.memory.agreed)
+answer_copy_is d s q answer =
+    other_order (is_answered q s.entered answer) (lives_fit d.program s.memory.agreed answer.deaths answer.news) (renewed_copy d.program answer.deaths answer.news s.memory.agreed)
 
 -- ---- what is opened
 
@@ -99,12 +104,12 @@ opens_deeper : (deeper b : Bool) (t : Tree) (rest func : ℕ) (entered : List �
 opens_deeper true b t rest func entered view copy below = opens_where b t rest func entered view copy below
 opens_deeper false b t rest func entered view copy below = refl
 
-answers_where : (b : Bool) (t : Tree) (d : Driver) (s : State) (q : Question) (left : ℕ) (deaths : List ℕ) (news : List New) (copy : Memory) (below : List split.Down)
-    → when_fits b (split.Runs t left s.func (entered_behind q.service deaths news s.entered) (grown d s.func copy news s.view) copy below)
-    ≡ opens_as t s.func below (answered_by d s q left deaths news (only_if b copy))
+answers_where : (b : Bool) (t : Tree) (d : Driver) (s : State) (q : Question) (left : ℕ) (answer : Answer) (copy : Memory) (below : List split.Down)
+    → when_fits b (split.Runs t left s.func (entered_behind q.service answer.deaths answer.news s.entered) (grown d s.func copy answer.news s.view) copy below)
+    ≡ opens_as t s.func below (answered_by d s q left answer (only_if b copy))
 unfolding grown_sight
-answers_where true t d s q left deaths news copy below = refl
-answers_where false t d s q left deaths news copy below = refl
+answers_where true t d s q left answer copy below = refl
+answers_where false t d s q left answer copy below = refl
 
 module _ (d : Driver) (fuel : ℕ) (s : State) where
   abbrev at : Awaits → State
@@ -117,37 +122,39 @@ module _ (d : Driver) (fuel : ℕ) (s : State) where
   waiting = downs_of d fuel s.below
 
   -- a Call, with a downcall or nothing open
-  opens_call : (o : Option Downcall) (func depth rest : ℕ) (args : List Wire) (told : Told)
-      → split.begun d (suc fuel) s.memory.agreed s.entered (downs_of d fuel (suspended_by o s)) func depth rest args told
-      ≡ opens_as (started d.user (suc fuel) func args depth Tree.Idle) func (downs_of d fuel (suspended_by o s))
-      (chosen (calls_deeper o depth) (opening_of rest s.entered (call_sight d s.memory.agreed s.entered func depth args told)) (opening.Refuses 3))
+  opens_call : (o : Option Downcall) (call : Call)
+      → split.begun d (suc fuel) s.memory.agreed s.entered (downs_of d fuel (suspended_by o s)) call
+      ≡ opens_as (started d.user (suc fuel) call.func call.args call.depth Tree.Idle) call.func (downs_of d fuel (suspended_by o s))
+      (chosen (calls_deeper o call.depth) (opening_of call.rest s.entered (call_sight d s.memory.agreed s.entered call)) (opening.Refuses 3))
   unfolding call_fits
-  opens_call o func depth rest args told =
-      let t : Tree = started d.user (suc fuel) func args depth Tree.Idle in
+  opens_call o call =
+      let t : Tree = started d.user (suc fuel) call.func call.args call.depth Tree.Idle in
       let below : List split.Down = downs_of d fuel (suspended_by o s) in
-      ap (λ (b : Bool). when_fits (b && call_fits d s.memory.agreed s.entered [] func depth args told)
-      (split.Runs t rest func s.entered (cells_of_runs told.view) (agreed_after d.program told s.memory.agreed) below)) (deeper_is o)
-      ∙ opens_deeper (calls_deeper o depth) (call_fits d s.memory.agreed s.entered [] func depth args told) t rest func s.entered (cells_of_runs told.view) (agreed_after d.program told s.memory.agreed) below
-      ∙ ap (λ (x : Option Sight). opens_as t func below (chosen (calls_deeper o depth) (opening_of rest s.entered x) (opening.Refuses 3)))
-      (sym (call_sight_is d s.memory.agreed s.entered func depth args told))
+      let view : List Cell = cells_of_runs call.told.view in
+      let copy : Memory = agreed_after d.program call.told s.memory.agreed in
+      ap (λ (b : Bool). when_fits (b && call_fits d s.memory.agreed s.entered [] call) (split.Runs t call.rest call.func s.entered view copy below)) (deeper_is o)
+      ∙ opens_deeper (calls_deeper o call.depth) (call_fits d s.memory.agreed s.entered [] call) t call.rest call.func s.entered view copy below
+      ∙ ap (λ (x : Option Sight). opens_as t call.func below (chosen (calls_deeper o call.depth) (opening_of call.rest s.entered x) (opening.Refuses 3)))
+      (sym (call_sight_is d s.memory.agreed s.entered call))
     where
-      deeper_is : (x : Option Downcall) → split.is_deeper (downs_of d fuel (suspended_by x s)) depth ≡ calls_deeper x depth
+      deeper_is : (x : Option Downcall) → split.is_deeper (downs_of d fuel (suspended_by x s)) call.depth ≡ calls_deeper x call.depth
       deeper_is None = refl
       deeper_is (Some down) = refl
 
   opens_with : (a : Awaits) (m : Message) → opened d (suc fuel) s.memory.agreed s.entered (user_of d fuel (at a)).work m
       ≡ opens_as (tree_for d fuel (at a) m) (func_for (at a) m) (downs_of d fuel (below_for (at a) m)) (opening_for d (at a) m)
   unfolding opened opening_for
-  opens_with awaits.Nothing (message.Call func depth rest args told) = opens_call None func depth rest args told
+  opens_with awaits.Nothing (message.Call call) = opens_call None call
   opens_with awaits.Nothing _ = refl
-  opens_with (awaits.Back f) (message.Call func depth rest args told) = opens_call (Some f) func depth rest args told
-  opens_with (awaits.Back f) (message.Back rest v told) =
-      opens_where (back_fits d s.memory.agreed s.entered s.func f.func v told) (goes (v ∷ [])) rest s.func s.entered (cells_of_runs told.view) (agreed_after d.program told s.memory.agreed) waiting
-      ∙ ap (λ (o : Option Sight). opens_as (goes (v ∷ [])) s.func waiting (opening_of rest s.entered o)) (sym (back_sight_is d s.memory.agreed s.func s.entered f.func v told))
+  opens_with (awaits.Back f) (message.Call call) = opens_call (Some f) call
+  opens_with (awaits.Back f) (message.Back back) =
+      let vs : List Wire = back.result ∷ [] in
+      opens_where (back_fits d s.memory.agreed s.entered s.func f.func back) (goes vs) back.rest s.func s.entered (cells_of_runs back.told.view) (agreed_after d.program back.told s.memory.agreed) waiting
+      ∙ ap (λ (o : Option Sight). opens_as (goes vs) s.func waiting (opening_of back.rest s.entered o)) (sym (back_sight_is d s.memory.agreed s.func s.entered f.func back))
   opens_with (awaits.Back f) _ = refl
-  opens_with (awaits.Answer q left) (message.Answer results deaths news) =
-      answers_where _ (goes results) d (at (awaits.Answer q left)) q left deaths news (renewed_copy d.program deaths news s.memory.agreed) waiting
-      ∙ ap (λ (o : Option Memory). opens_as (goes results) s.func waiting (answered_by d (at (awaits.Answer q left)) q left deaths news o)) (sym (answer_copy_is d (at (awaits.Answer q left)) q results deaths news))
+  opens_with (awaits.Answer q left) (message.Answer answer) =
+      answers_where _ (goes answer.results) d (at (awaits.Answer q left)) q left answer (renewed_copy d.program answer.deaths answer.news s.memory.agreed) waiting
+      ∙ ap (λ (o : Option Memory). opens_as (goes answer.results) s.func waiting (answered_by d (at (awaits.Answer q left)) q left answer o)) (sym (answer_copy_is d (at (awaits.Answer q left)) q answer))
   opens_with (awaits.Answer q left) _ = refl
 
   pub opens_is : (m : Message) → opened d (suc fuel) s.memory.agreed s.entered (user_of d fuel s).work m ≡ opens_as (tree_for d fuel s m) (func_for s m) (downs_of d fuel (below_for s m)) (opening_for d s m)
@@ -169,9 +176,9 @@ pub deeper_goes : (deeper : Bool) (o : Opening) (turn : Turn) → chosen deeper 
 deeper_goes true o turn e = e
 deeper_goes false o turn e = absurd (cc e)
 
-left_of : (d : Driver) (s : State) (q : Question) (left : ℕ) (deaths : List ℕ) (news : List New) (o : Option Memory) (turn : Turn) → answered_by d s q left deaths news o ≡ opening.Goes turn → turn.rest ≤ left + 0
-left_of d s q left deaths news None turn e = absurd (cc e)
-left_of d s q left deaths news (Some copy) turn e =
+left_of : (d : Driver) (s : State) (q : Question) (left : ℕ) (answer : Answer) (o : Option Memory) (turn : Turn) → answered_by d s q left answer o ≡ opening.Goes turn → turn.rest ≤ left + 0
+left_of d s q left answer None turn e = absurd (cc e)
+left_of d s q left answer (Some copy) turn e =
     let same : left ≡ turn.rest = ap rest_in e in omega (arith, same)
   where
     rest_in : Opening → ℕ
@@ -181,14 +188,14 @@ left_of d s q left deaths news (Some copy) turn e =
 module _ (d : Driver) (s : State) (turn : Turn) where
   rest_with : (a : Awaits) (m : Message) → opening_for d (record s { awaits = a }) m ≡ opening.Goes turn → turn.rest ≤ kept_by a + granted (Ok m)
   unfolding opening_for
-  rest_with awaits.Nothing (message.Call func depth rest args told) e = rest_of rest s.entered (call_sight d s.memory.agreed s.entered func depth args told) turn e
+  rest_with awaits.Nothing (message.Call call) e = rest_of call.rest s.entered (call_sight d s.memory.agreed s.entered call) turn e
   rest_with awaits.Nothing _ e = absurd (cc e)
-  rest_with (awaits.Back f) (message.Call func depth rest args told) e =
-      rest_of rest s.entered (call_sight d s.memory.agreed s.entered func depth args told) turn (deeper_goes (calls_deeper (Some f) depth) _ turn e)
-  rest_with (awaits.Back f) (message.Back rest v told) e = rest_of rest s.entered (back_sight d s.memory.agreed s.func s.entered f.func v told) turn e
+  rest_with (awaits.Back f) (message.Call call) e =
+      rest_of call.rest s.entered (call_sight d s.memory.agreed s.entered call) turn (deeper_goes (calls_deeper (Some f) call.depth) _ turn e)
+  rest_with (awaits.Back f) (message.Back back) e = rest_of back.rest s.entered (back_sight d s.memory.agreed s.func s.entered f.func back) turn e
   rest_with (awaits.Back f) _ e = absurd (cc e)
-  rest_with (awaits.Answer q left) (message.Answer results deaths news) e =
-      left_of d (record s { awaits = awaits.Answer q left }) q left deaths news (answer_copy d (record s { awaits = awaits.Answer q left }) q results deaths news) turn e
+  rest_with (awaits.Answer q left) (message.Answer answer) e =
+      left_of d (record s { awaits = awaits.Answer q left }) q left answer (answer_copy d (record s { awaits = awaits.Answer q left }) q answer) turn e
   rest_with (awaits.Answer q left) _ e = absurd (cc e)
 
   pub rest_is : (m : Message) → opening_for d s m ≡ opening.Goes turn → turn.rest ≤ kept_by s.awaits + granted (Ok m)

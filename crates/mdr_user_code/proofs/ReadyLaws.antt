@@ -24,10 +24,12 @@ use Rattle.mdr_meaning.specs.Cut.{cut}
 use Rattle.mdr_meaning.specs.Sides.{Side}
 use Rattle.mdr_meaning.specs.Tree.{Asked, Tree}
 use Rattle.mdr_meaning.specs.Walk.{walk}
+use Rattle.mdr_model.specs.declared.message.Answer.{Answer}
+use Rattle.mdr_model.specs.declared.message.Back.{Back}
+use Rattle.mdr_model.specs.declared.message.Call.{Call}
 use Rattle.mdr_model.specs.declared.message.Message.{Message}
 use Rattle.mdr_model.specs.declared.message.Message.TheVariants as message
 use Rattle.mdr_model.specs.declared.message.New.{New}
-use Rattle.mdr_model.specs.declared.message.Told.{Told}
 use Rattle.mdr_model.specs.Memory.{Memory}
 use Rattle.mdr_split.specs.Services.{are_different, are_given_by, are_new, is_new, leaving, results_fit, serials_of}
 use Rattle.mdr_split.specs.User.{guarded, objects_fit, replied_to}
@@ -51,19 +53,20 @@ use Rattle.mdr_user_code.specs.Tidings.{deaths_in, news_in}
 use Rattle.mdr_user_code.proofs.RunLaws.{cut_child}
 use Rattle.mdr_user_code.proofs.Sides.{user_body, user_is}
 
--- a function is started in a machine that held nothing
-pub started_is : (program : Program) (plan : Plan) (func depth : ℕ) (args passed : List Wire) (m0 m : Machine) → IsReady (held_of program m) → IsFit plan program → is_user plan func ≡ true → passed ≡ args
+-- the function of a call is started in a machine that held nothing
+pub started_is : (program : Program) (plan : Plan) (call : Call) (passed : List Wire) (m0 m : Machine) → IsReady (held_of program m) → IsFit plan program → is_user plan call.func ≡ true → passed ≡ call.args
     → ((p : Program) (side : Side) (f r : ℕ) → tree side f (held_of p m0) r ≡ Tree.Idle)
-    → ((side : Side) → side.own func ≡ body_of program func → (f r : ℕ) → r ≤ f → tree side f (held_of program m) r ≡ cut r (started side (f + 1) func passed depth (tree side f (held_of program m0) r)))
-    → IsStarted (driver_of program plan) func args depth m
-started_is program plan func depth args passed m0 m ready fit user same none is = record {
+    → ((side : Side) → side.own call.func ≡ body_of program call.func → (f r : ℕ) → r ≤ f
+    → tree side f (held_of program m) r ≡ cut r (started side (f + 1) call.func passed call.depth (tree side f (held_of program m0) r)))
+    → IsStarted (driver_of program plan) call m
+started_is program plan call passed m0 m ready fit user same none is = record {
   ready = ready;
   by = λ f r less.
       let next : f + 1 ≡ suc f = omega arith in
-      is (driver_of program plan).user (user_body program plan fit.halves func user) f r less
-      ∙ ap (λ (t : Tree). cut r (started (driver_of program plan).user (f + 1) func passed depth t)) (none program (driver_of program plan).user f r)
-      ∙ ap (λ (n : ℕ). cut r (started (driver_of program plan).user n func passed depth Tree.Idle)) next
-      ∙ ap (λ (vs : List Wire). cut r (started (driver_of program plan).user (suc f) func vs depth Tree.Idle)) same;
+      is (driver_of program plan).user (user_body program plan fit.halves call.func user) f r less
+      ∙ ap (λ (t : Tree). cut r (started (driver_of program plan).user (f + 1) call.func passed call.depth t)) (none program (driver_of program plan).user f r)
+      ∙ ap (λ (n : ℕ). cut r (started (driver_of program plan).user n call.func passed call.depth Tree.Idle)) next
+      ∙ ap (λ (vs : List Wire). cut r (started (driver_of program plan).user (suc f) call.func vs call.depth Tree.Idle)) same;
 }
 
 -- user code that waits for a downcall waits below
@@ -72,41 +75,39 @@ suspended_waits d s awaits.Nothing o below = tt
 suspended_waits d s (awaits.Back f) o below = (o, below)
 suspended_waits d s (awaits.Answer q left) o below = tt
 
-called : (d : Driver) (s s' : State) (func depth rest : ℕ) (args passed : List Wire) (told : Told) → passed ≡ args → Opens d s → Begins d func passed depth s s' → Prepared d s (message.Call func depth rest args told) s'
-called d s s' func depth rest args passed told same opens is = record {
+called : (d : Driver) (s s' : State) (call : Call) → Opens d s → Begins d call s s' → Prepared d s (message.Call call) s'
+called d s s' call opens is = record {
   memory = is.memory;
   below = is.below;
   waits = subst (opens_below d) (sym is.below) (suspended_waits d s s.awaits opens.0 opens.1);
   func = is.named;
   ready = is.started.ready;
-  holds = λ f r less. is.started.by f r less ∙ ap (λ (vs : List Wire). cut r (started d.user (suc f) func vs depth Tree.Idle)) same;
+  holds = λ f r less. is.started.by f r less;
 }
 
-pub prepared_call : (d : Driver) (s s' : State) (m : Message) (func depth rest : ℕ) (args passed : List Wire) (told : Told) → m ≡ message.Call func depth rest args told → passed ≡ args → Opens d s
-    → Begins d func passed depth s s' → Prepared d s m s'
-prepared_call d s s' m func depth rest args passed told same given opens is =
-    subst (λ x. Prepared d s x s') (sym same) (called d s s' func depth rest args passed told given opens is)
+pub prepared_call : (d : Driver) (s s' : State) (m : Message) (call : Call) → m ≡ message.Call call → Opens d s → Begins d call s s' → Prepared d s m s'
+prepared_call d s s' m call same opens is = subst (λ x. Prepared d s x s') (sym same) (called d s s' call opens is)
 
 resumed : (d : Driver) (s s' : State) (results : List Wire) → IsResumed results s.machine s'.machine → (f r : ℕ) → tree d.user f (held_in d s') r ≡ cut r (child (bare d.user f (held_in d s)) results)
 unfolding tree
 resumed d s s' results is f r = is.by d.program d.user f r ∙ sym (cut_child r (bare d.user f (held_in d s)) results)
 
-pub prepared_back : (d : Driver) (s s' : State) (m : Message) (rest : ℕ) (v : Wire) (told : Told) → opens_below d s.below → is_started (held_in d s).items ≡ true → m ≡ message.Back rest v told → Resumed (v ∷ []) s s' → Prepared d s m s'
-prepared_back d s s' m rest v told waiting started same is =
-    let p : Prepared d s (message.Back rest v told) s' = record {
+pub prepared_back : (d : Driver) (s s' : State) (m : Message) (back : Back) → opens_below d s.below → is_started (held_in d s).items ≡ true → m ≡ message.Back back → Resumed (back.result ∷ []) s s' → Prepared d s m s'
+prepared_back d s s' m back waiting started same is =
+    let p : Prepared d s (message.Back back) s' = record {
       memory = is.memory;
       func = is.func;
       below = is.below;
       waits = subst (opens_below d) (sym is.below) waiting;
-      holds = λ f r less. resumed d s s' (v ∷ []) is.machine f r;
+      holds = λ f r less. resumed d s s' (back.result ∷ []) is.machine f r;
       ready = is.machine.ready d.program started;
     } in
     subst (λ x. Prepared d s x s') (sym same) p
 
-pub prepared_answer : (d : Driver) (s s' : State) (m : Message) (results passed : List Wire) (deaths : List ℕ) (news : List New) → opens_below d s.below → is_started (held_in d s).items ≡ true → m ≡ message.Answer results deaths news → passed ≡ results → Resumed passed s s'
+pub prepared_answer : (d : Driver) (s s' : State) (m : Message) (answer : Answer) (passed : List Wire) → opens_below d s.below → is_started (held_in d s).items ≡ true → m ≡ message.Answer answer → passed ≡ answer.results → Resumed passed s s'
     → Prepared d s m s'
-prepared_answer d s s' m results passed deaths news waiting started same given is =
-    let p : Prepared d s (message.Answer results deaths news) s' =
+prepared_answer d s s' m answer passed waiting started same given is =
+    let p : Prepared d s (message.Answer answer) s' =
     record { memory = is.memory; func = is.func; below = is.below; waits = subst (opens_below d) (sym is.below) waiting; holds = λ f r less. resumed d s s' passed is.machine f r ∙ ap (λ (vs : List Wire). cut r (child (bare d.user f (held_in d s)) vs)) given; ready = is.machine.ready d.program started } in
     subst (λ x. Prepared d s x s') (sym same) p
 
@@ -147,10 +148,10 @@ called_where true true false rest entered sight turn h = absurd (cc h)
 called_where true false may rest entered sight turn h = absurd (cc h)
 called_where false deeper may rest entered sight turn h = absurd (cc h)
 
-called_so : (d : Driver) (s : State) (m : Message) (func depth rest : ℕ) (args : List Wire) (told : Told) (turn : Turn) → m ≡ message.Call func depth rest args told → opening_for d s m ≡ opening.Goes turn → may_enter d.plan func depth ≡ true
+called_so : (d : Driver) (s : State) (m : Message) (call : Call) (turn : Turn) → m ≡ message.Call call → opening_for d s m ≡ opening.Goes turn → may_enter d.plan call.func call.depth ≡ true
 unfolding opening_for call_sight
-called_so d s m func depth rest args told turn same goes =
-    called_where (takes_call s.awaits) (calls_deeper (downcall s.awaits) depth) (may_enter d.plan func depth) rest s.entered _ turn (sym (ap (opening_for d s) same) ∙ goes)
+called_so d s m call turn same goes =
+    called_where (takes_call s.awaits) (calls_deeper (downcall s.awaits) call.depth) (may_enter d.plan call.func call.depth) call.rest s.entered _ turn (sym (ap (opening_for d s) same) ∙ goes)
 
 left_holds : (x y : Bool) → x && y ≡ true → x ≡ true
 left_holds true y h = refl
@@ -161,21 +162,21 @@ right_holds true y h = h
 right_holds false y h = absurd (cc h)
 
 -- a call is of a function of the user half, with few active before it
-pub called_user : (d : Driver) (s : State) (m : Message) (func depth rest : ℕ) (args : List Wire) (told : Told) (turn : Turn) → m ≡ message.Call func depth rest args told → opening_for d s m ≡ opening.Goes turn → is_user d.plan func ≡ true
-called_user d s m func depth rest args told turn same goes = left_holds (is_user d.plan func) (nat_le depth 255) (called_so d s m func depth rest args told turn same goes)
+pub called_user : (d : Driver) (s : State) (m : Message) (call : Call) (turn : Turn) → m ≡ message.Call call → opening_for d s m ≡ opening.Goes turn → is_user d.plan call.func ≡ true
+called_user d s m call turn same goes = left_holds (is_user d.plan call.func) (nat_le call.depth 255) (called_so d s m call turn same goes)
 
-pub called_shallow : (d : Driver) (s : State) (m : Message) (func depth rest : ℕ) (args : List Wire) (told : Told) (turn : Turn) → m ≡ message.Call func depth rest args told → opening_for d s m ≡ opening.Goes turn → depth ≤ 255
-called_shallow d s m func depth rest args told turn same goes = leb-true depth 255 (right_holds (is_user d.plan func) (nat_le depth 255) (called_so d s m func depth rest args told turn same goes))
+pub called_shallow : (d : Driver) (s : State) (m : Message) (call : Call) (turn : Turn) → m ≡ message.Call call → opening_for d s m ≡ opening.Goes turn → call.depth ≤ 255
+called_shallow d s m call turn same goes = leb-true call.depth 255 (right_holds (is_user d.plan call.func) (nat_le call.depth 255) (called_so d s m call turn same goes))
 
 -- the end of a call across is awaited
-back_where : (d : Driver) (s : State) (a : Awaits) (rest : ℕ) (v : Wire) (told : Told) (turn : Turn) (h : Held) → back_by d s (downcall a) rest v told ≡ opening.Goes turn → opens_by a h → IsOpen takes_value h
-back_where d s awaits.Nothing rest v told turn h goes o = absurd (cc goes)
-back_where d s (awaits.Back down) rest v told turn h goes o = o
-back_where d s (awaits.Answer question left) rest v told turn h goes o = absurd (cc goes)
+back_where : (d : Driver) (s : State) (a : Awaits) (back : Back) (turn : Turn) (h : Held) → back_by d s (downcall a) back ≡ opening.Goes turn → opens_by a h → IsOpen takes_value h
+back_where d s awaits.Nothing back turn h goes o = absurd (cc goes)
+back_where d s (awaits.Back down) back turn h goes o = o
+back_where d s (awaits.Answer question left) back turn h goes o = absurd (cc goes)
 
-pub back_awaited : (d : Driver) (s : State) (m : Message) (rest : ℕ) (v : Wire) (told : Told) (turn : Turn) → m ≡ message.Back rest v told → opening_for d s m ≡ opening.Goes turn → Opens d s → IsOpen takes_value (held_in d s)
+pub back_awaited : (d : Driver) (s : State) (m : Message) (back : Back) (turn : Turn) → m ≡ message.Back back → opening_for d s m ≡ opening.Goes turn → Opens d s → IsOpen takes_value (held_in d s)
 unfolding opening_for
-back_awaited d s m rest v told turn same goes o = back_where d s s.awaits rest v told turn (held_in d s) (sym (ap (opening_for d s) same) ∙ goes) o.0
+back_awaited d s m back turn same goes o = back_where d s s.awaits back turn (held_in d s) (sym (ap (opening_for d s) same) ∙ goes) o.0
 
 -- answers are awaited, and these are as many
 pub record AreAwaited (h : Held) (results : List Wire) : Type 0 where
@@ -195,26 +196,25 @@ as_many_fit asked news results fits is =
     let enters : (are_new news asked.shapes results && are_different (serials_of results)) ≡ true = sym (ap (λ n. are_given_by (service_numbered n) news asked.shapes results) is) ∙ fits in
     new_many news asked.shapes results (left_holds (are_new news asked.shapes results) (are_different (serials_of results)) enters)
 
-answered_where : (d : Driver) (s : State) (q : Question) (left : ℕ) (deaths : List ℕ) (news : List New) (turn : Turn) (fits : Bool) (copy : Option Memory) → answered_by d s q left deaths news (where_so fits copy) ≡ opening.Goes turn → fits ≡ true
-answered_where d s q left deaths news turn true copy h = refl
-answered_where d s q left deaths news turn false copy h = absurd (cc h)
+answered_where : (d : Driver) (s : State) (q : Question) (left : ℕ) (answer : Answer) (turn : Turn) (fits : Bool) (copy : Option Memory) → answered_by d s q left answer (where_so fits copy) ≡ opening.Goes turn → fits ≡ true
+answered_where d s q left answer turn true copy h = refl
+answered_where d s q left answer turn false copy h = absurd (cc h)
 
-answer_where : (d : Driver) (s : State) (a : Awaits) (results : List Wire) (deaths : List ℕ) (news : List New) (turn : Turn) (h : Held) → answer_by d s a results deaths news ≡ opening.Goes turn → opens_by a h → AreAwaited h results
+answer_where : (d : Driver) (s : State) (a : Awaits) (answer : Answer) (turn : Turn) (h : Held) → answer_by d s a answer ≡ opening.Goes turn → opens_by a h → AreAwaited h answer.results
 unfolding answer_copy
-answer_where d s awaits.Nothing results deaths news turn h goes o = absurd (cc goes)
-answer_where d s (awaits.Back down) results deaths news turn h goes o = absurd (cc goes)
-answer_where d s (awaits.Answer q left) results deaths news turn h goes o = record {
+answer_where d s awaits.Nothing answer turn h goes o = absurd (cc goes)
+answer_where d s (awaits.Back down) answer turn h goes o = absurd (cc goes)
+answer_where d s (awaits.Answer q left) answer turn h goes o = record {
   asked = asked_of q;
   waiting = o;
-  many = as_many_fit (asked_of q) news results
-      (right_holds (objects_fit (leaving q.service q.args) deaths s.entered) (results_fit (asked_of q) news results)
-      (answered_where d s q left deaths news turn (is_answered q s.entered results deaths news) (renewed d.program s.memory.agreed deaths news) goes));
+  many = as_many_fit (asked_of q) answer.news answer.results
+      (right_holds (objects_fit (leaving q.service q.args) answer.deaths s.entered) (results_fit (asked_of q) answer.news answer.results)
+      (answered_where d s q left answer turn (is_answered q s.entered answer) (renewed d.program s.memory.agreed answer.deaths answer.news) goes));
 }
 
-pub answer_awaited : (d : Driver) (s : State) (m : Message) (results : List Wire) (deaths : List ℕ) (news : List New) (turn : Turn) → m ≡ message.Answer results deaths news → opening_for d s m ≡ opening.Goes turn → Opens d s
-    → AreAwaited (held_in d s) results
+pub answer_awaited : (d : Driver) (s : State) (m : Message) (answer : Answer) (turn : Turn) → m ≡ message.Answer answer → opening_for d s m ≡ opening.Goes turn → Opens d s → AreAwaited (held_in d s) answer.results
 unfolding opening_for
-answer_awaited d s m results deaths news turn same goes o = answer_where d s s.awaits results deaths news turn (held_in d s) (sym (ap (opening_for d s) same) ∙ goes) o.0
+answer_awaited d s m answer turn same goes o = answer_where d s s.awaits answer turn (held_in d s) (sym (ap (opening_for d s) same) ∙ goes) o.0
 
 -- so they fit the machine
 pub back_waits : (d : Driver) (s : State) → IsOpen takes_value (held_in d s) → waits s.machine.front ≡ true

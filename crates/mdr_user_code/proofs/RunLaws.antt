@@ -26,6 +26,7 @@ use Rattle.mdr_meaning.proofs.WalkLaws.{walk_cut}
 use Rattle.mdr_model.specs.declared.memory.Cell.{Cell}
 use Rattle.mdr_model.specs.declared.message.Message.{Message}
 use Rattle.mdr_model.specs.declared.message.Message.TheVariants as message
+use Rattle.mdr_model.specs.declared.reply.Reply.TheVariants as said
 use Rattle.mdr_model.specs.Agreement.{SerialsRise}
 use Rattle.mdr_model.specs.Copies.{changes, put_runs}
 use Rattle.mdr_model.specs.Memory.{Memory}
@@ -37,7 +38,7 @@ use Rattle.mdr_user_memory.proofs.WithinLaws.{changes_give, walk_left, within_fi
 use Rattle.mdr_watched.specs.Driver.{Driver}
 use Rattle.mdr_user_code.specs.declared.state.State.{State}
 use Rattle.mdr_user_memory.specs.Copied.{Copied, Past, copied, copy_accesses}
-use Rattle.mdr_user_code.specs.Replying.{IsSettled, RunReplies, state_behind, told_as}
+use Rattle.mdr_user_code.specs.Replying.{IsSettled, RunReplies, state_behind, stop_as, told_as}
 use Rattle.mdr_user_code.specs.Standing.{Opens, downs_of, held_in, kept_by, opens_below, replies_so}
 use Rattle.mdr_user_code.proofs.CopiedWalks.{copied_walked, walks}
 use Rattle.mdr_split.specs.Fuel.{cut_delivered, cut_down, cut_work}
@@ -160,7 +161,7 @@ module _ (d : Driver) (s : State) (m : Machine) (past : Past) (view : List Cell)
       replied_at fuel more t came.Goes fits same ran.1
       ∙ ap (λ (x : Tree). answer_of fuel more (walk copy_accesses left x c)) w.1
       ∙ ap (λ (n : ℕ). answer_of fuel more (walk copy_accesses n (Tree.Tick at h'.frame.here.depth w.0) c)) ran.0
-      ∙ ap (λ (n : ℕ). stands (message.Stop (rest - n) (stop_number stop.Ticks) at (changes c.view copy c.memory)) (put_runs (changes c.view copy c.memory) copy) Nothing) (sym ran.0)
+      ∙ ap (λ (n : ℕ). stands (message.Reply (said.Stop (stop_as (rest - n) (stop_number stop.Ticks) at (changes c.view copy c.memory)))) (put_runs (changes c.view copy c.memory) copy) Nothing) (sym ran.0)
       ∙ both_agree (told (event.TicksOut at)) Nothing
 
   kept_is : (e : Event) → kept_by (settled e).awaits ≤ rest

@@ -9,6 +9,9 @@ use Rattle.mdr_meaning.specs.declared.wire.Wire.{Wire}
 use Rattle.mdr_meaning.specs.declared.wire.Wire.TheVariants as wire
 use Rattle.mdr_model.specs.declared.memory.Cell.{Cell}
 use Rattle.mdr_model.specs.declared.message.Fault.{Fault}
+use Rattle.mdr_model.specs.declared.message.Answer.{Answer}
+use Rattle.mdr_model.specs.declared.message.Back.{Back}
+use Rattle.mdr_model.specs.declared.message.Call.{Call}
 use Rattle.mdr_model.specs.declared.message.Message.{Message}
 use Rattle.mdr_model.specs.declared.message.Message.TheVariants as message
 use Rattle.mdr_model.specs.declared.message.New.{New}
@@ -105,12 +108,12 @@ all_shaped program copy (n ∷ news) h =
     let rest = all_shaped program copy news each.1 in
     λ i. first i && rest i
 
-pub copy_shaped : (d : Driver) (s : State) (q : Question) (results : List Wire) (deaths : List ℕ) (news : List New) (copy : Memory) → answer_copy d s q results deaths news ≡ Some copy → list_all (has_shape d.program) news ≡ true
+pub copy_shaped : (d : Driver) (s : State) (q : Question) (answer : Answer) (copy : Memory) → answer_copy d s q answer ≡ Some copy → list_all (has_shape d.program) answer.news ≡ true
 unfolding answer_copy lives_fit
-copy_shaped d s q results deaths news copy e =
-    let one = where_some (is_answered q s.entered results deaths news) _ copy e in
-    let two = only_some (lives_fit d.program s.memory.agreed deaths news) _ copy one.1 in
-    all_shaped d.program (without deaths s.memory.agreed) news (and_parts _ _ (and_parts _ _ two.0).1).1
+copy_shaped d s q answer copy e =
+    let one = where_some (is_answered q s.entered answer) _ copy e in
+    let two = only_some (lives_fit d.program s.memory.agreed answer.deaths answer.news) _ copy one.1 in
+    all_shaped d.program (without answer.deaths s.memory.agreed) answer.news (and_parts _ _ (and_parts _ _ two.0).1).1
 
 -- deaths and births fit, and what is seen then
 pub record Seen (d : Driver) (copy : Memory) (told : Told) (sight : Sight) : Type 0 where
@@ -136,22 +139,25 @@ module _ (d : Driver) (copy : Memory) (told : Told) (sight : Sight) where
       of true h k = (h, k)
       of false h k = absurd (cc k)
 
-  pub call_seen : (entered : List ℕ) (func depth : ℕ) (args : List Wire) → call_sight d copy entered func depth args told ≡ Some sight → Seen d copy told sight
+module _ (d : Driver) (copy : Memory) (sight : Sight) where
+  pub call_seen : (entered : List ℕ) (call : Call) → call_sight d copy entered call ≡ Some sight → Seen d copy call.told sight
   unfolding call_sight
-  call_seen entered func depth args e =
+  call_seen entered call e =
+      let told : Told = call.told in
       let one = where_some _ _ sight e in
       let two = where_some _ _ sight one.1 in
-      let three = renewed_so (λ m. called d m func args told) two.1 in
-      let four = where_some (args_fit d.program (renewed_copy d.program told.deaths told.news copy) func args) _ sight three.1 in
-      shown_so func four.1 three.0
+      let three = renewed_so d copy told sight (λ m. called d m call) two.1 in
+      let four = where_some (args_fit d.program (renewed_copy d.program told.deaths told.news copy) call.func call.args) _ sight three.1 in
+      shown_so d copy told sight call.func four.1 three.0
 
-  pub back_seen : (stub : ℕ) (entered : List ℕ) (func : ℕ) (v : Wire) → back_sight d copy stub entered func v told ≡ Some sight → Seen d copy told sight
+  pub back_seen : (stub : ℕ) (entered : List ℕ) (func : ℕ) (back : Back) → back_sight d copy stub entered func back ≡ Some sight → Seen d copy back.told sight
   unfolding back_sight
-  back_seen stub entered func v e =
+  back_seen stub entered func back e =
+      let told : Told = back.told in
       let one = where_some _ _ sight e in
-      let two = renewed_so (λ m. returned d m stub func v told) one.1 in
-      let three = where_some (result_fits d.program (renewed_copy d.program told.deaths told.news copy) func v) _ sight two.1 in
-      shown_so stub three.1 two.0
+      let two = renewed_so d copy told sight (λ m. returned d m stub func back) one.1 in
+      let three = where_some (result_fits d.program (renewed_copy d.program told.deaths told.news copy) func back.result) _ sight two.1 in
+      shown_so d copy told sight stub three.1 two.0
 
 -- ---- a message
 
@@ -172,17 +178,17 @@ unfolding AreKept values_of_runs
 none_kept m = tt
 
 module _ (d : Driver) (s : State) (turn : Turn) where
-  answer_tells : (q : Question) (left : ℕ) (results : List Wire) (deaths : List ℕ) (news : List New) (a : Awaits) (o : Option Memory) → answer_copy d (record s { awaits = a }) q results deaths news ≡ o
-      → answered_by d (record s { awaits = a }) q left deaths news o ≡ opening.Goes turn → TellsTo d s.memory.agreed (message.Answer results deaths news) turn.sight.copy
+  answer_tells : (q : Question) (left : ℕ) (answer : Answer) (a : Awaits) (o : Option Memory) → answer_copy d (record s { awaits = a }) q answer ≡ o
+      → answered_by d (record s { awaits = a }) q left answer o ≡ opening.Goes turn → TellsTo d s.memory.agreed (message.Answer answer) turn.sight.copy
   unfolding answer_copy grown_sight put_runs
-  answer_tells q left results deaths news a None e k = absurd (cc k)
-  answer_tells q left results deaths news a (Some copy) e k =
-      let one = where_some (is_answered q s.entered results deaths news) _ copy e in
-      let two = only_some (lives_fit d.program s.memory.agreed deaths news) _ copy one.1 in
+  answer_tells q left answer a None e k = absurd (cc k)
+  answer_tells q left answer a (Some copy) e k =
+      let one = where_some (is_answered q s.entered answer) _ copy e in
+      let two = only_some (lives_fit d.program s.memory.agreed answer.deaths answer.news) _ copy one.1 in
       record {
         lives = two.0;
-        leads = sym (ap copy_in k) ∙ (sym two.1 ∙ no_runs (renewed_copy d.program deaths news s.memory.agreed));
-        are_kept = none_kept (renewed_copy d.program deaths news s.memory.agreed);
+        leads = sym (ap copy_in k) ∙ (sym two.1 ∙ no_runs (renewed_copy d.program answer.deaths answer.news s.memory.agreed));
+        are_kept = none_kept (renewed_copy d.program answer.deaths answer.news s.memory.agreed);
       }
     where
       copy_in : Opening → Memory
@@ -191,20 +197,20 @@ module _ (d : Driver) (s : State) (turn : Turn) where
 
   tells_with : (a : Awaits) (m : Message) → opening_for d (record s { awaits = a }) m ≡ opening.Goes turn → TellsTo d s.memory.agreed m turn.sight.copy
   unfolding opening_for
-  tells_with awaits.Nothing (message.Call func depth rest args told) e =
-      let q = call_seen d s.memory.agreed told turn.sight s.entered func depth args (sight_of rest s.entered (call_sight d s.memory.agreed s.entered func depth args told) turn e) in
+  tells_with awaits.Nothing (message.Call call) e =
+      let q = call_seen d s.memory.agreed turn.sight s.entered call (sight_of call.rest s.entered (call_sight d s.memory.agreed s.entered call) turn e) in
       record { lives = q.lives; leads = q.leads; are_kept = q.are_kept }
   tells_with awaits.Nothing _ e = absurd (cc e)
-  tells_with (awaits.Back f) (message.Call func depth rest args told) e =
-      let goes = deeper_goes (calls_deeper (Some f) depth) _ turn e in
-      let q = call_seen d s.memory.agreed told turn.sight s.entered func depth args (sight_of rest s.entered (call_sight d s.memory.agreed s.entered func depth args told) turn goes) in
+  tells_with (awaits.Back f) (message.Call call) e =
+      let goes = deeper_goes (calls_deeper (Some f) call.depth) _ turn e in
+      let q = call_seen d s.memory.agreed turn.sight s.entered call (sight_of call.rest s.entered (call_sight d s.memory.agreed s.entered call) turn goes) in
       record { lives = q.lives; leads = q.leads; are_kept = q.are_kept }
-  tells_with (awaits.Back f) (message.Back rest v told) e =
-      let q = back_seen d s.memory.agreed told turn.sight s.func s.entered f.func v (sight_of rest s.entered (back_sight d s.memory.agreed s.func s.entered f.func v told) turn e) in
+  tells_with (awaits.Back f) (message.Back back) e =
+      let q = back_seen d s.memory.agreed turn.sight s.func s.entered f.func back (sight_of back.rest s.entered (back_sight d s.memory.agreed s.func s.entered f.func back) turn e) in
       record { lives = q.lives; leads = q.leads; are_kept = q.are_kept }
   tells_with (awaits.Back f) _ e = absurd (cc e)
-  tells_with (awaits.Answer q left) (message.Answer results deaths news) e =
-      answer_tells q left results deaths news (awaits.Answer q left) (answer_copy d (record s { awaits = awaits.Answer q left }) q results deaths news) refl e
+  tells_with (awaits.Answer q left) (message.Answer answer) e =
+      answer_tells q left answer (awaits.Answer q left) (answer_copy d (record s { awaits = awaits.Answer q left }) q answer) refl e
   tells_with (awaits.Answer q left) _ e = absurd (cc e)
 
   pub tells : (m : Message) → opening_for d s m ≡ opening.Goes turn → TellsTo d s.memory.agreed m turn.sight.copy

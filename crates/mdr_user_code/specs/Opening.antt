@@ -9,6 +9,9 @@ use Rattle.mdr_events.specs.Steps.{child}
 use Rattle.mdr_meaning.specs.declared.wire.Wire.{Wire}
 use Rattle.mdr_meaning.specs.Bodies.{started}
 use Rattle.mdr_meaning.specs.Tree.{Tree}
+use Rattle.mdr_model.specs.declared.message.Answer.{Answer}
+use Rattle.mdr_model.specs.declared.message.Back.{Back}
+use Rattle.mdr_model.specs.declared.message.Call.{Call}
 use Rattle.mdr_model.specs.declared.message.Message.{Message}
 use Rattle.mdr_model.specs.declared.message.Message.TheVariants as message
 use Rattle.mdr_model.specs.declared.message.New.{New}
@@ -61,8 +64,9 @@ args_fit program copy func args = is_none (args_fault (fits (places_in program c
 abbrev pub result_fits : Program → Memory → (func : ℕ) → Wire → Bool
 result_fits program copy func v = fits_result (places_in program copy) (result_of (slice_get program.funcs func)) v
 
-abbrev pub is_answered : Question → (entered : List ℕ) → List Wire → (deaths : List ℕ) → List New → Bool
-is_answered q entered results deaths news = objects_fit (leaving q.service q.args) deaths entered && results_fit (asked_of q) news results
+abbrev pub is_answered : Question → (entered : List ℕ) → Answer → Bool
+is_answered q entered answer =
+    objects_fit (leaving q.service q.args) answer.deaths entered && results_fit (asked_of q) answer.news answer.results
 
 -- ---- what is seen
 
@@ -72,20 +76,22 @@ renewed program copy deaths news = only_if (lives_fit program copy deaths news) 
 abbrev pub shown : Driver → (stub : ℕ) → Memory → Told → Option Sight
 shown d stub copy told = only_if (cells_fit d stub copy told.view told.runs) (record { view = cells_of_runs told.view; copy = put_runs told.runs copy })
 
-abbrev pub called : Driver → Memory → (func : ℕ) → List Wire → Told → Option Sight
-called d copy func args told = where_so (args_fit d.program copy func args) (shown d func copy told)
+abbrev pub called : Driver → Memory → Call → Option Sight
+called d copy call = where_so (args_fit d.program copy call.func call.args) (shown d call.func copy call.told)
 
-unfoldable pub call_sight : Driver → Memory → (entered : List ℕ) → (func depth : ℕ) → List Wire → Told → Option Sight
-call_sight d copy entered func depth args told =
-    where_so (may_enter d.plan func depth)
-    (where_so (objects_fit [] told.deaths entered) (and_then (renewed d.program copy told.deaths told.news) (λ left. called d left func args told)))
+unfoldable pub call_sight : Driver → Memory → (entered : List ℕ) → Call → Option Sight
+call_sight d copy entered call =
+    where_so (may_enter d.plan call.func call.depth)
+    (where_so (objects_fit [] call.told.deaths entered)
+    (and_then (renewed d.program copy call.told.deaths call.told.news) (λ left. called d left call)))
 
-abbrev pub returned : Driver → Memory → (stub func : ℕ) → Wire → Told → Option Sight
-returned d copy stub func v told = where_so (result_fits d.program copy func v) (shown d stub copy told)
+abbrev pub returned : Driver → Memory → (stub func : ℕ) → Back → Option Sight
+returned d copy stub func back = where_so (result_fits d.program copy func back.result) (shown d stub copy back.told)
 
-unfoldable pub back_sight : Driver → Memory → (stub : ℕ) → (entered : List ℕ) → (func : ℕ) → Wire → Told → Option Sight
-back_sight d copy stub entered func v told =
-    where_so (objects_fit [] told.deaths entered) (and_then (renewed d.program copy told.deaths told.news) (λ left. returned d left stub func v told))
+unfoldable pub back_sight : Driver → Memory → (stub : ℕ) → (entered : List ℕ) → (func : ℕ) → Back → Option Sight
+back_sight d copy stub entered func back =
+    where_so (objects_fit [] back.told.deaths entered)
+    (and_then (renewed d.program copy back.told.deaths back.told.news) (λ left. returned d left stub func back))
 
 unfoldable pub grown_sight : Driver → State → List New → Memory → Sight
 grown_sight d s news copy = record { view = grown d s.func copy news s.view; copy = copy }
@@ -112,61 +118,61 @@ abbrev pub calls_deeper : Option Downcall → (depth : ℕ) → Bool
 calls_deeper None depth = true
 calls_deeper (Some down) depth = nat_lt down.depth depth
 
-abbrev pub call_opening : Driver → State → (func depth rest : ℕ) → List Wire → Told → Opening
-call_opening d s func depth rest args told =
+abbrev pub call_opening : Driver → State → Call → Opening
+call_opening d s call =
     chosen (takes_call s.awaits)
-    (chosen (calls_deeper (downcall s.awaits) depth) (opening_of rest s.entered (call_sight d s.memory.agreed s.entered func depth args told)) (opening.Refuses 3))
+    (chosen (calls_deeper (downcall s.awaits) call.depth) (opening_of call.rest s.entered (call_sight d s.memory.agreed s.entered call)) (opening.Refuses 3))
     (opening.Refuses 2)
 
-abbrev pub back_by : Driver → State → Option Downcall → (rest : ℕ) → Wire → Told → Opening
-back_by d s None rest v told = opening.Refuses 2
-back_by d s (Some down) rest v told = opening_of rest s.entered (back_sight d s.memory.agreed s.func s.entered down.func v told)
+abbrev pub back_by : Driver → State → Option Downcall → Back → Opening
+back_by d s None back = opening.Refuses 2
+back_by d s (Some down) back = opening_of back.rest s.entered (back_sight d s.memory.agreed s.func s.entered down.func back)
 
-abbrev pub back_opening : Driver → State → (rest : ℕ) → Wire → Told → Opening
-back_opening d s rest v told = back_by d s (downcall s.awaits) rest v told
+abbrev pub back_opening : Driver → State → Back → Opening
+back_opening d s back = back_by d s (downcall s.awaits) back
 
-unfoldable pub answer_copy : Driver → State → Question → List Wire → (deaths : List ℕ) → List New → Option Memory
-answer_copy d s q results deaths news = where_so (is_answered q s.entered results deaths news) (renewed d.program s.memory.agreed deaths news)
+unfoldable pub answer_copy : Driver → State → Question → Answer → Option Memory
+answer_copy d s q answer = where_so (is_answered q s.entered answer) (renewed d.program s.memory.agreed answer.deaths answer.news)
 
-abbrev pub answer_turn : Driver → State → Question → (left : ℕ) → (deaths : List ℕ) → List New → Memory → Turn
-answer_turn d s q left deaths news copy = record {
+abbrev pub answer_turn : Driver → State → Question → (left : ℕ) → Answer → Memory → Turn
+answer_turn d s q left answer copy = record {
   rest = left;
-  entered = entered_behind q.service deaths news s.entered;
-  sight = grown_sight d s news copy;
+  entered = entered_behind q.service answer.deaths answer.news s.entered;
+  sight = grown_sight d s answer.news copy;
 }
 
-abbrev pub answered_by : Driver → State → Question → (left : ℕ) → (deaths : List ℕ) → List New → Option Memory → Opening
-answered_by d s q left deaths news None = opening.Refuses 3
-answered_by d s q left deaths news (Some copy) = opening.Goes (answer_turn d s q left deaths news copy)
+abbrev pub answered_by : Driver → State → Question → (left : ℕ) → Answer → Option Memory → Opening
+answered_by d s q left answer None = opening.Refuses 3
+answered_by d s q left answer (Some copy) = opening.Goes (answer_turn d s q left answer copy)
 
-abbrev pub answered : Driver → State → Question → (left : ℕ) → List Wire → (deaths : List ℕ) → List New → Opening
-answered d s q left results deaths news = answered_by d s q left deaths news (answer_copy d s q results deaths news)
+abbrev pub answered : Driver → State → Question → (left : ℕ) → Answer → Opening
+answered d s q left answer = answered_by d s q left answer (answer_copy d s q answer)
 
-abbrev pub answer_by : Driver → State → Awaits → List Wire → (deaths : List ℕ) → List New → Opening
-answer_by d s awaits.Nothing results deaths news = opening.Refuses 2
-answer_by d s (awaits.Back down) results deaths news = opening.Refuses 2
-answer_by d s (awaits.Answer q left) results deaths news = answered d s q left results deaths news
+abbrev pub answer_by : Driver → State → Awaits → Answer → Opening
+answer_by d s awaits.Nothing answer = opening.Refuses 2
+answer_by d s (awaits.Back down) answer = opening.Refuses 2
+answer_by d s (awaits.Answer q left) answer = answered d s q left answer
 
-abbrev pub answer_opening : Driver → State → List Wire → (deaths : List ℕ) → List New → Opening
-answer_opening d s results deaths news = answer_by d s s.awaits results deaths news
+abbrev pub answer_opening : Driver → State → Answer → Opening
+answer_opening d s answer = answer_by d s s.awaits answer
 
 unfoldable pub opening_for : Driver → State → Message → Opening
-opening_for d s (message.Call func depth rest args told) = call_opening d s func depth rest args told
-opening_for d s (message.Back rest v told) = back_opening d s rest v told
-opening_for d s (message.Answer results deaths news) = answer_opening d s results deaths news
+opening_for d s (message.Call call) = call_opening d s call
+opening_for d s (message.Back back) = back_opening d s back
+opening_for d s (message.Answer answer) = answer_opening d s answer
 opening_for d s _ = opening.Refuses 2
 
 -- ---- what runs then
 
 -- the tree that an accepted message runs, and the function of its upcall
 abbrev pub tree_for : Driver → (fuel : ℕ) → State → Message → Tree
-tree_for d fuel s (message.Call func depth rest args told) = started d.user (suc fuel) func args depth Tree.Idle
-tree_for d fuel s (message.Back rest v told) = child (bare d.user fuel (held_in d s)) (v ∷ [])
-tree_for d fuel s (message.Answer results deaths news) = child (bare d.user fuel (held_in d s)) results
+tree_for d fuel s (message.Call call) = started d.user (suc fuel) call.func call.args call.depth Tree.Idle
+tree_for d fuel s (message.Back back) = child (bare d.user fuel (held_in d s)) (back.result ∷ [])
+tree_for d fuel s (message.Answer answer) = child (bare d.user fuel (held_in d s)) answer.results
 tree_for d fuel s _ = Tree.Idle
 
 abbrev pub func_for : State → Message → ℕ
-func_for s (message.Call func depth rest args told) = func
+func_for s (message.Call call) = call.func
 func_for s _ = s.func
 
 -- user code that waits for a downcall, below the upcall that begins
@@ -176,7 +182,7 @@ suspended_by (Some down) s = record { machine = s.machine; func = s.func; down =
 
 -- the upcalls below the one that an accepted message runs in
 abbrev pub below_for : State → Message → List Suspended
-below_for s (message.Call func depth rest args told) = suspended_by (downcall s.awaits) s
+below_for s (message.Call call) = suspended_by (downcall s.awaits) s
 below_for s _ = s.below
 
 abbrev pub opens_as : Tree → (func : ℕ) → List split.Down → Opening → split.Opened

@@ -1,11 +1,14 @@
 -- protocol
 -- The reply of an event, and what is open behind it.
 use Rattle.std.specs.Prelude.{◌≡◌, ◌≤◌, ℕ, suc, ◌+◌, ◌-◌, true, List, map, [], ◌∷◌}
+use Rattle.mdr_core.specs.declared.place.At.{At}
 use Rattle.mdr_core.specs.declared.program.Program.{Program}
 use Rattle.mdr_core.specs.declared.stop.StopKind.TheVariants as stop
 use Rattle.mdr_events.specs.declared.event.Asked.{Asked as Service}
+use Rattle.mdr_events.specs.declared.event.Crossing.{Crossing}
 use Rattle.mdr_events.specs.declared.event.Event.{Event}
 use Rattle.mdr_events.specs.declared.event.Event.TheVariants as event
+use Rattle.mdr_events.specs.Events.{asked_as}
 use Rattle.mdr_events.specs.Going.{RanTo}
 use Rattle.mdr_events.specs.Held.{tree}
 use Rattle.mdr_events.specs.Ready.{IsReady, is_started}
@@ -21,12 +24,20 @@ use Rattle.mdr_meaning.specs.Tree.{Tree}
 use Rattle.mdr_meaning.specs.Values.{wire_of}
 use Rattle.mdr_meaning.specs.Walk.{walk}
 use Rattle.mdr_model.specs.declared.memory.Cell.{Cell}
+use Rattle.mdr_model.specs.declared.message.Call.{Call}
 use Rattle.mdr_model.specs.declared.message.Message.{Message}
 use Rattle.mdr_model.specs.declared.message.Message.TheVariants as message
 use Rattle.mdr_model.specs.declared.message.Run.{Run}
+use Rattle.mdr_model.specs.declared.reply.Ask.{Ask}
+use Rattle.mdr_model.specs.declared.reply.Down.{Down}
+use Rattle.mdr_model.specs.declared.reply.Reply.{Reply}
+use Rattle.mdr_model.specs.declared.reply.Reply.TheVariants as replies
+use Rattle.mdr_model.specs.declared.reply.Return.{Return}
+use Rattle.mdr_model.specs.declared.reply.Stop.{Stop}
 use Rattle.mdr_model.specs.Copies.{changes, put_runs}
 use Rattle.mdr_model.specs.Memory.{Memory, normal}
 use Rattle.mdr_model.specs.ReplyFaults.{stop_number}
+use Rattle.mdr_split.specs.Services.{ask_of, asked_now}
 use Rattle.mdr_split.specs.User.{Delivered, guarded, replied_to}
 use Rattle.mdr_watched.specs.Driver.{Driver}
 use Rattle.mdr_user_code.specs.declared.opening.Turn.{Turn}
@@ -44,17 +55,17 @@ use Rattle.mdr_user_code.specs.Tidings.{deaths_in, news_in}
 
 -- ---- the machine is made ready
 
--- a function was started in a machine that held nothing
-pub record IsStarted (d : Driver) (func : ℕ) (args : List Wire) (depth : ℕ) (m : Machine) : Type 0 where
-  pub by : (fuel r : ℕ) → r ≤ fuel → tree d.user fuel (held_of d.program m) r ≡ cut r (started d.user (suc fuel) func args depth Tree.Idle)
+-- the function of a call was started in a machine that held nothing
+pub record IsStarted (d : Driver) (call : Call) (m : Machine) : Type 0 where
+  pub by : (fuel r : ℕ) → r ≤ fuel → tree d.user fuel (held_of d.program m) r ≡ cut r (started d.user (suc fuel) call.func call.args call.depth Tree.Idle)
   pub ready : IsReady (held_of d.program m)
 
 -- an upcall begins, over what waits for a downcall
-pub record Begins (d : Driver) (func : ℕ) (args : List Wire) (depth : ℕ) (s s' : State) : Type 0 where
+pub record Begins (d : Driver) (call : Call) (s s' : State) : Type 0 where
   pub memory : s'.memory ≡ s.memory
-  pub named : s'.func ≡ func
+  pub named : s'.func ≡ call.func
   pub below : s'.below ≡ suspended_by (downcall s.awaits) s
-  pub started : IsStarted d func args depth s'.machine
+  pub started : IsStarted d call s'.machine
 
 -- a question is answered
 pub record IsResumed (results : List Wire) (m m' : Machine) : Type 0 where
@@ -78,12 +89,29 @@ pub record Prepared (d : Driver) (s : State) (m : Message) (s' : State) : Type 0
 
 -- ---- what is told
 
+-- a question and a downcall, with their arguments as they are now
+abbrev pub ask_as : (ticks : ℕ) → Memory → List Run → Service → Ask
+ask_as ticks m runs q = ask_of ticks (asked_now m (asked_as q)) runs
+
+abbrev pub down_as : (ticks : ℕ) → Memory → List Run → Crossing → Down
+down_as ticks m runs c =
+    record { ticks = ticks; at = c.at; depth = c.depth; func = c.func; args = map (normal m) (wires_of c.args); runs = runs }
+
+abbrev pub return_as : (ticks : ℕ) → Wire → List Run → Return
+return_as ticks v runs = record { ticks = ticks; result = v; runs = runs }
+
+abbrev pub stop_as : (ticks number : ℕ) → At → List Run → Stop
+stop_as ticks number at runs = record { ticks = ticks; stop = number; at = at; runs = runs }
+
+abbrev pub replied_as : (ticks : ℕ) → Memory → List Run → Event → Reply
+replied_as ticks m runs (event.Done v) = replies.Return (return_as ticks (normal m (wire_of v)) runs)
+replied_as ticks m runs (event.Cross c) = replies.Down (down_as ticks m runs c)
+replied_as ticks m runs (event.Service q) = replies.Ask (ask_as ticks m runs q)
+replied_as ticks m runs (event.TicksOut at) = replies.Stop (stop_as ticks (stop_number stop.Ticks) at runs)
+replied_as ticks m runs (event.Stop kind at) = replies.Stop (stop_as ticks (stop_number kind) at runs)
+
 abbrev pub told_as : (ticks : ℕ) → Memory → List Run → Event → Message
-told_as ticks m runs (event.Done v) = message.Return ticks (normal m (wire_of v)) runs
-told_as ticks m runs (event.Cross c) = message.Down ticks c.at c.depth c.func (map (normal m) (wires_of c.args)) runs
-told_as ticks m runs (event.Service q) = message.Ask ticks q.at q.service (map (normal m) (wires_of q.args)) q.shapes q.bytes runs
-told_as ticks m runs (event.TicksOut at) = message.Stop ticks (stop_number stop.Ticks) at runs
-told_as ticks m runs (event.Stop kind at) = message.Stop ticks (stop_number kind) at runs
+told_as ticks m runs e = message.Reply (replied_as ticks m runs e)
 
 abbrev pub question_as : Service → Question
 question_as q = record { service = q.service; at = q.at; args = wires_of q.args; shapes = q.shapes; bytes = q.bytes }

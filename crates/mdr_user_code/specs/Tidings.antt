@@ -12,20 +12,20 @@ use Rattle.mdr_user_memory.specs.Taking.{AreKept}
 use Rattle.mdr_watched.specs.Driver.{Driver}
 
 abbrev pub deaths_in : Message → List ℕ
-deaths_in (message.Call func depth rest args told) = told.deaths
-deaths_in (message.Back rest v told) = told.deaths
-deaths_in (message.Answer results deaths news) = deaths
+deaths_in (message.Call call) = call.told.deaths
+deaths_in (message.Back back) = back.told.deaths
+deaths_in (message.Answer answer) = answer.deaths
 deaths_in _ = []
 
 abbrev pub news_in : Message → List New
-news_in (message.Call func depth rest args told) = told.news
-news_in (message.Back rest v told) = told.news
-news_in (message.Answer results deaths news) = news
+news_in (message.Call call) = call.told.news
+news_in (message.Back back) = back.told.news
+news_in (message.Answer answer) = answer.news
 news_in _ = []
 
 abbrev pub runs_in : Message → List Run
-runs_in (message.Call func depth rest args told) = told.runs
-runs_in (message.Back rest v told) = told.runs
+runs_in (message.Call call) = call.told.runs
+runs_in (message.Back back) = back.told.runs
 runs_in _ = []
 
 -- a message that is accepted leads from one copy to another: deaths and births fit, and each value is as it is kept

@@ -53,7 +53,7 @@ pub fn begins(alloc: Global, program: &Program, plan: &Plan) -> Result<State, Ou
 fn refused(reason: u32) -> Message
     ensures { result ≡ message_is.Refuse reason }
 {
-    Message::Refuse { reason }
+    Message::Refuse(reason)
 }
 
 /// The memory takes what a message tells.

@@ -3,42 +3,14 @@
 ghost use Rattle.std.specs.Prelude.{◌≡◌, ◌≤◌, IfOk, length};
 ghost use Rattle.mdr_core.specs.Sound.{HasFewNumbers};
 ghost use Rattle.mdr_meaning.specs.Bodies.{known_of};
-ghost use Rattle.mdr_meaning.specs.Numbers.{is_same_type, number_in};
 ghost use Rattle.mdr_plain.specs.Storage.{first_memory, global_block, global_blocks};
 
 use crate::values::wires_of;
 use mdr_copy::RisingBlocks;
-use mdr_core::{GlobalDef, OutOfMemory, Program, Ty, same_type};
+use mdr_core::{GlobalDef, OutOfMemory, Program};
 use mdr_model::{BirthKind, MemoryBlock, New};
+use mdr_numbers::number_of;
 use std::alloc::Global;
-
-fn is_same_type(a: &Ty, b: &Ty) -> bool
-    ensures { result ≡ is_same_type a.now b.now }
-{
-    same_type(a, b)
-}
-
-/// The first place of a type in a list; behind its end where it isn't there.
-#[tactic(auto, unfolding(mdr_meaning::specs::Numbers::number_in))]
-fn number_in(types: &[Ty], ty: &Ty) -> usize
-    ensures number { result ≡ number_in types.now ty.now }
-    ensures within { result ≤ length types.now }
-{
-    for i in 0..types.len() {
-        if is_same_type(&types[i], ty) {
-            return i;
-        }
-    }
-    types.len()
-}
-
-/// The number of a type in a table of few; behind its end where it isn't there.
-fn number_of(types: &[Ty], ty: &Ty) -> u32
-    requires { length types.now ≤ 16777216 }
-    ensures { result ≡ number_in types.now ty.now }
-{
-    number_in(types, ty) as u32
-}
 
 fn global_born(program: &Program, serial: u64, global: &GlobalDef) -> New
     requires { length program.now.types ≤ 16777216 }

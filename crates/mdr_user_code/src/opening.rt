@@ -8,7 +8,7 @@ ghost use Rattle.mdr_split.specs.Services.{leaving, results_fit};
 ghost use Rattle.mdr_split.specs.User.{objects_fit};
 ghost use Rattle.mdr_user_code.specs.Opening.{answer_copy, answer_opening, answer_turn, answered, back_opening, back_sight, call_opening};
 ghost use Rattle.mdr_user_code.specs.Opening.{call_sight, calls_deeper, downcall, grown_sight, is_answered, opening_of, opening_for, takes_call};
-ghost use Rattle.mdr_user_code.specs.Standing.{asked_of, driver_in};
+ghost use Rattle.mdr_user_code.specs.Standing.{driver_in};
 
 use crate::grown::visible_after;
 use crate::objects::objects_fit;
@@ -18,7 +18,7 @@ use crate::state::{Awaits, Downcall, Question, State};
 use mdr_copy::RisingBlocks;
 use mdr_core::{Items, OutOfMemory};
 use mdr_fits::{entered_behind, leaving, results_fit};
-use mdr_model::{Message, New, Told, Wire};
+use mdr_model::{Answer, Back, Call, Message, New};
 use std::alloc::Global;
 
 /// User code that goes on: its ticks, the blocks that came in an answer to service 13 and live, and what it sees.
@@ -86,45 +86,39 @@ fn open_call(
     alloc: Global,
     scene: Scene,
     state: &State,
-    func: u32,
-    depth: u32,
-    rest: u64,
-    args: &[Wire],
-    told: &Told,
+    call: &Call,
 ) -> Result<Opening, OutOfMemory>
     requires { IsSound scene.program.now }
-    ensures { IfOk result (λ o. o ≡ call_opening (driver_in scene.entry) state.now func depth rest args.now told.now) }
+    ensures { IfOk result (λ o. o ≡ call_opening (driver_in scene.entry) state.now call.now) }
 {
     if !takes_call(state) {
         return Ok(Opening::Refuses(2));
     }
-    if !calls_deeper(state, depth) {
+    if !calls_deeper(state, call.depth) {
         return Ok(Opening::Refuses(3));
     }
     let entered = Items::from_slice(alloc, state.entered.as_slice())?;
     let copy = state.memory.agreed();
     let lives = state.entered.as_slice();
-    let sight = call_sight(alloc, scene, copy, lives, func, depth, args, told)?;
-    Ok(opening_of(rest, entered, sight))
+    let sight = call_sight(alloc, scene, copy, lives, call)?;
+    Ok(opening_of(call.rest, entered, sight))
 }
 
-fn back(
+fn given_back(
     alloc: Global,
     scene: Scene,
     state: &State,
     func: u32,
-    rest: u64,
-    value: Wire,
-    told: &Told,
+    back: &Back,
 ) -> Result<Opening, OutOfMemory>
     requires { IsSound scene.program.now }
-    ensures { IfOk result (λ o. o ≡ opening_of rest state.now.entered (back_sight (driver_in scene.entry) state.now.memory.agreed state.now.func state.now.entered func value told.now)) }
+    ensures { IfOk result (λ o. o ≡ opening_of back.now.rest state.now.entered (back_sight (driver_in scene.entry) state.now.memory.agreed state.now.func state.now.entered func back.now)) }
 {
     let entered = Items::from_slice(alloc, state.entered.as_slice())?;
     let copy = state.memory.agreed();
     let lives = state.entered.as_slice();
-    let sight = back_sight(alloc, scene, copy, state.func, lives, func, value, told)?;
-    Ok(opening_of(rest, entered, sight))
+    let sight = back_sight(alloc, scene, copy, state.func, lives, func, back)?;
+    Ok(opening_of(back.rest, entered, sight))
 }
 
 /// The return of a downcall, which is awaited where one is open.
@@ -132,16 +126,14 @@ fn open_back(
     alloc: Global,
     scene: Scene,
     state: &State,
-    rest: u64,
-    value: Wire,
-    told: &Told,
+    back: &Back,
 ) -> Result<Opening, OutOfMemory>
     requires { IsSound scene.program.now }
-    ensures { IfOk result (λ o. o ≡ back_opening (driver_in scene.entry) state.now rest value told.now) }
+    ensures { IfOk result (λ o. o ≡ back_opening (driver_in scene.entry) state.now back.now) }
 {
     match downcall(state) {
         Some(down) => {
-            let opening = back(alloc, scene, state, down.func, rest, value, told)?;
+            let opening = given_back(alloc, scene, state, down.func, back)?;
             Ok(opening)
         }
         None => Ok(Opening::Refuses(2)),
@@ -153,15 +145,15 @@ fn is_answered(
     alloc: Global,
     question: &Question,
     entered: &[u64],
-    results: &[Wire],
-    deaths: &[u64],
-    news: &[New],
+    answer: &Answer,
 ) -> Result<bool, OutOfMemory>
-    ensures { IfOk result (λ b. b ≡ is_answered question.now entered.now results.now deaths.now news.now) }
+    ensures { IfOk result (λ b. b ≡ is_answered question.now entered.now answer.now) }
 {
     let gone = leaving(alloc, question.service, question.args.as_slice())?;
-    let fits = results_fit(question.service, question.shapes.as_slice(), news, results);
-    Ok(objects_fit(gone.as_slice(), deaths, entered) && fits)
+    let shapes = question.shapes.as_slice();
+    let news = answer.news.as_slice();
+    let fits = results_fit(question.service, shapes, news, answer.results.as_slice());
+    Ok(objects_fit(gone.as_slice(), answer.deaths.as_slice(), entered) && fits)
 }
 
 /// The copy once the deaths and births of an answer are in it, where it fits.
@@ -171,24 +163,16 @@ fn answer_copy(
     scene: Scene,
     state: &State,
     question: &Question,
-    results: &[Wire],
-    deaths: &Items<u64>,
-    news: &Items<New>,
+    answer: &Answer,
 ) -> Result<Option<RisingBlocks>, OutOfMemory>
-    ensures { IfOk result (λ c. c ≡ answer_copy (driver_in scene.entry) state.now question.now results.now deaths.now news.now) }
+    ensures { IfOk result (λ c. c ≡ answer_copy (driver_in scene.entry) state.now question.now answer.now) }
 {
     let lives = state.entered.as_slice();
-    if !is_answered(
-        alloc,
-        question,
-        lives,
-        results,
-        deaths.as_slice(),
-        news.as_slice(),
-    )? {
+    if !is_answered(alloc, question, lives, answer)? {
         return Ok(None);
     }
-    let copy = renewed(alloc, scene.program, state.memory.agreed(), deaths, news)?;
+    let agreed = state.memory.agreed();
+    let copy = renewed(alloc, scene.program, agreed, &answer.deaths, &answer.news)?;
     Ok(copy)
 }
 
@@ -217,15 +201,16 @@ fn answer_turn(
     state: &State,
     question: &Question,
     left: u64,
-    deaths: &[u64],
-    news: &[New],
+    answer: &Answer,
     copy: RisingBlocks,
 ) -> Result<Turn, OutOfMemory>
     requires sound { IsSound scene.program.now }
-    requires shaped { list_all (has_shape scene.program.now) news.now ≡ true }
-    ensures { IfOk result (λ t. t ≡ answer_turn (driver_in scene.entry) state.now question.now left deaths.now news.now copy) }
+    requires shaped { list_all (has_shape scene.program.now) answer.now.news ≡ true }
+    ensures { IfOk result (λ t. t ≡ answer_turn (driver_in scene.entry) state.now question.now left answer.now copy) }
 {
     let lives = state.entered.as_slice();
+    let deaths = answer.deaths.as_slice();
+    let news = answer.news.as_slice();
     let sight = grown_sight(alloc, scene, state, copy, news)?;
     let entered = entered_behind(alloc, question.service, deaths, news, lives)?;
     Ok(Turn {
@@ -241,25 +226,14 @@ fn answered(
     state: &State,
     question: &Question,
     left: u64,
-    results: &[Wire],
-    deaths: &Items<u64>,
-    news: &Items<New>,
+    answer: &Answer,
 ) -> Result<Opening, OutOfMemory>
     requires { IsSound scene.program.now }
-    ensures { IfOk result (λ o. o ≡ answered (driver_in scene.entry) state.now question.now left results.now deaths.now news.now) }
+    ensures { IfOk result (λ o. o ≡ answered (driver_in scene.entry) state.now question.now left answer.now) }
 {
-    match answer_copy(alloc, scene, state, question, results, deaths, news)? {
+    match answer_copy(alloc, scene, state, question, answer)? {
         Some(copy) => {
-            let turn = answer_turn(
-                alloc,
-                scene,
-                state,
-                question,
-                left,
-                deaths.as_slice(),
-                news.as_slice(),
-                copy,
-            )?;
+            let turn = answer_turn(alloc, scene, state, question, left, answer, copy)?;
             Ok(Opening::Goes(turn))
         }
         None => Ok(Opening::Refuses(3)),
@@ -271,17 +245,13 @@ fn open_answer(
     alloc: Global,
     scene: Scene,
     state: &State,
-    results: &[Wire],
-    deaths: &Items<u64>,
-    news: &Items<New>,
+    answer: &Answer,
 ) -> Result<Opening, OutOfMemory>
     requires { IsSound scene.program.now }
-    ensures { IfOk result (λ o. o ≡ answer_opening (driver_in scene.entry) state.now results.now deaths.now news.now) }
+    ensures { IfOk result (λ o. o ≡ answer_opening (driver_in scene.entry) state.now answer.now) }
 {
     match &state.awaits {
-        Awaits::Answer(question, left) => answered(
-            alloc, scene, state, question, *left, results, deaths, news,
-        ),
+        Awaits::Answer(question, left) => answered(alloc, scene, state, question, *left, answer),
         Awaits::Nothing => Ok(Opening::Refuses(2)),
         Awaits::Back(_) => Ok(Opening::Refuses(2)),
     }
@@ -299,34 +269,10 @@ pub(crate) fn opens(
     ensures { IfOk result (λ o. o ≡ opening_for (driver_in scene.entry) state.now message.now) }
 {
     match message {
-        Message::Call {
-            func,
-            depth,
-            rest,
-            args,
-            told,
-        } => open_call(
-            alloc,
-            scene,
-            state,
-            *func,
-            *depth,
-            *rest,
-            args.as_slice(),
-            told,
-        ),
-        Message::Back { rest, result, told } => {
-            open_back(alloc, scene, state, *rest, *result, told)
-        }
-        Message::Answer {
-            results,
-            deaths,
-            news,
-        } => open_answer(alloc, scene, state, results.as_slice(), deaths, news),
-        Message::Return { .. } => Ok(Opening::Refuses(2)),
-        Message::Down { .. } => Ok(Opening::Refuses(2)),
-        Message::Ask { .. } => Ok(Opening::Refuses(2)),
-        Message::Stop { .. } => Ok(Opening::Refuses(2)),
-        Message::Refuse { .. } => Ok(Opening::Refuses(2)),
+        Message::Call(call) => open_call(alloc, scene, state, call),
+        Message::Back(back) => open_back(alloc, scene, state, back),
+        Message::Answer(answer) => open_answer(alloc, scene, state, answer),
+        Message::Reply(_) => Ok(Opening::Refuses(2)),
+        Message::Refuse(_) => Ok(Opening::Refuses(2)),
     }
 }

@@ -18,27 +18,32 @@ use crate::state::{State, Suspended};
 use crate::values::values_of;
 use mdr_core::{Items, OutOfMemory, Value};
 use mdr_exec::{Machine, Side};
-use mdr_model::{Message, Wire};
+use mdr_model::{Call, Message, Wire};
 use std::alloc::Global;
 use std::mem;
 
-/// Starts a function in a machine, over nothing, with so many active before it. What the machine held is gone.
+/// Starts the function of a call in a machine, over nothing. What the machine held is gone.
 fn restart(
     alloc: Global,
     scene: Scene,
     machine: &mut Machine,
-    func: u32,
-    args: &[Wire],
-    depth: u32,
+    call: &Call,
 ) -> Result<(), OutOfMemory>
     requires fit { IsFit scene.plan.now scene.program.now }
-    requires user { is_user scene.plan.now func ≡ true }
-    requires depth { depth ≤ 255 }
-    ensures { OnOk result (IsStarted (driver_in scene.entry) func args.now depth machine.new) }
+    requires user { is_user scene.plan.now call.now.func ≡ true }
+    requires depth { call.now.depth ≤ 255 }
+    ensures { OnOk result (IsStarted (driver_in scene.entry) call.now machine.new) }
 {
+    let args = call.args.as_slice();
     let values = values_of(alloc, args)?;
     put(machine, Machine::new(alloc, Side::User));
-    machine.start(alloc, scene.program, func, values.as_slice(), depth)?;
+    machine.start(
+        alloc,
+        scene.program,
+        call.func,
+        values.as_slice(),
+        call.depth,
+    )?;
     Ok(())
 }
 
@@ -66,22 +71,15 @@ fn suspend(alloc: Global, state: &mut State) -> Result<(), OutOfMemory>
     }
 }
 
-fn start(
-    alloc: Global,
-    scene: Scene,
-    state: &mut State,
-    func: u32,
-    args: &[Wire],
-    depth: u32,
-) -> Result<(), OutOfMemory>
+fn start(alloc: Global, scene: Scene, state: &mut State, call: &Call) -> Result<(), OutOfMemory>
     requires fit { IsFit scene.plan.now scene.program.now }
-    requires user { is_user scene.plan.now func ≡ true }
-    requires depth { depth ≤ 255 }
-    ensures { OnOk result (Begins (driver_in scene.entry) func args.now depth state.old state.new) }
+    requires user { is_user scene.plan.now call.now.func ≡ true }
+    requires depth { call.now.depth ≤ 255 }
+    ensures { OnOk result (Begins (driver_in scene.entry) call.now state.old state.new) }
 {
     suspend(alloc, state)?;
-    restart(alloc, scene, &mut state.machine, func, args, depth)?;
-    state.func = func;
+    restart(alloc, scene, &mut state.machine, call)?;
+    state.func = call.func;
     Ok(())
 }
 
@@ -126,18 +124,10 @@ pub(crate) fn prepare(
     ensures { OnOk result (Prepared (driver_in scene.entry) state.old message.now state.new) }
 {
     match message {
-        Message::Call {
-            func,
-            depth,
-            args,
-            ..
-        } => start(alloc, scene, state, *func, args.as_slice(), *depth),
-        Message::Back { result, .. } => give_back(alloc, state, *result),
-        Message::Answer { results, .. } => answer(alloc, state, results.as_slice()),
-        Message::Return { .. } => unreachable!(),
-        Message::Down { .. } => unreachable!(),
-        Message::Ask { .. } => unreachable!(),
-        Message::Stop { .. } => unreachable!(),
-        Message::Refuse { .. } => unreachable!(),
+        Message::Call(call) => start(alloc, scene, state, call),
+        Message::Back(back) => give_back(alloc, state, back.result),
+        Message::Answer(answer_to) => answer(alloc, state, answer_to.results.as_slice()),
+        Message::Reply(_) => unreachable!(),
+        Message::Refuse(_) => unreachable!(),
     }
 }

@@ -3,46 +3,21 @@
 ghost use Rattle.std.specs.Prelude.{◌≡◌, ◌≤◌, ◌-◌, map, IfOk, OnOk};
 ghost use Rattle.mdr_events.specs.Values.{wires_of};
 ghost use Rattle.mdr_meaning.specs.Values.{wire_of};
-ghost use Rattle.mdr_model.specs.declared.message.Message.TheVariants as message;
+ghost use Rattle.mdr_model.specs.declared.reply.Reply.TheVariants as replies;
 ghost use Rattle.mdr_model.specs.Copies.{changes, put_runs};
 ghost use Rattle.mdr_model.specs.Memory.{normal};
 ghost use Rattle.mdr_model.specs.ReplyFaults.{stop_number};
-ghost use Rattle.mdr_user_code.specs.Replying.{IsSettled, ended, question_as, rested_by, state_behind, told_as};
+ghost use Rattle.mdr_user_code.specs.Replying.{IsSettled, ask_as, down_as, ended, question_as, replied_as, rested_by, state_behind, stop_as, told_as};
 
 use crate::state::{Awaits, Downcall, Question, State};
 use crate::values::wires_of;
 use mdr_copy::{RisingBlocks, normal, normals, wire_of};
-use mdr_core::{Items, OutOfMemory, StopKind, Value};
+use mdr_core::{At, Items, OutOfMemory, StopKind, Value};
 use mdr_events::{Asked, Crossing, Event};
-use mdr_model::{Message, Run, Wire};
+use mdr_model::{Ask, Down, Message, Reply, Return, Run, Stop, Wire, stop_number};
 use mdr_user_memory::{SeenMemory, gather};
 use std::alloc::Global;
 use std::mem;
-
-/// A stop's number, from 1.
-fn stop_number(kind: StopKind) -> u32
-    ensures { result ≡ stop_number kind }
-{
-    match kind {
-        StopKind::Null => 1,
-        StopKind::Dead => 2,
-        StopKind::Bounds => 3,
-        StopKind::Overflow => 4,
-        StopKind::DivZero => 5,
-        StopKind::Shift => 6,
-        StopKind::Compare => 7,
-        StopKind::BadCast => 8,
-        StopKind::BadCall => 9,
-        StopKind::NoValue => 10,
-        StopKind::LockHeld => 11,
-        StopKind::LockFree => 12,
-        StopKind::Depth => 13,
-        StopKind::Bug => 14,
-        StopKind::Annotation => 15,
-        StopKind::Ticks => 16,
-        StopKind::Atomic => 17,
-    }
-}
 
 /// Values as messages carry them.
 fn told_values(
@@ -57,17 +32,17 @@ fn told_values(
     Ok(told)
 }
 
-/// The reply that asks for a service.
+/// The question for a service.
 fn ask(
     alloc: Global,
     ticks: u64,
     memory: &RisingBlocks,
     runs: Items<Run>,
     asked: &Asked,
-) -> Result<Message, OutOfMemory>
-    ensures { IfOk result (λ r. r ≡ message.Ask ticks asked.now.at asked.now.service (map (normal memory.now) (wires_of asked.now.args)) asked.now.shapes asked.now.bytes runs) }
+) -> Result<Ask, OutOfMemory>
+    ensures { IfOk result (λ a. a ≡ ask_as ticks memory.now runs asked.now) }
 {
-    Ok(Message::Ask {
+    Ok(Ask {
         ticks,
         at: asked.at,
         service: asked.service,
@@ -78,22 +53,33 @@ fn ask(
     })
 }
 
-/// The reply that calls a function of the kernel half.
+/// The call of a function of the kernel half.
 fn call_down(
     alloc: Global,
     ticks: u64,
     memory: &RisingBlocks,
     runs: Items<Run>,
     crossing: &Crossing,
-) -> Result<Message, OutOfMemory>
-    ensures { IfOk result (λ r. r ≡ message.Down ticks crossing.now.at crossing.now.depth crossing.now.func (map (normal memory.now) (wires_of crossing.now.args)) runs) }
+) -> Result<Down, OutOfMemory>
+    ensures { IfOk result (λ d. d ≡ down_as ticks memory.now runs crossing.now) }
 {
-    Ok(Message::Down {
+    Ok(Down {
         ticks,
         at: crossing.at,
         depth: crossing.depth,
         func: crossing.func,
         args: told_values(alloc, memory, crossing.args.as_slice())?,
+        runs,
+    })
+}
+
+fn stop(ticks: u64, kind: StopKind, at: At, runs: Items<Run>) -> Reply
+    ensures { result ≡ replies.Stop (stop_as ticks (stop_number kind) at runs) }
+{
+    Reply::Stop(Stop {
+        ticks,
+        stop: stop_number(kind),
+        at,
         runs,
     })
 }
@@ -105,29 +91,19 @@ fn tell(
     memory: &RisingBlocks,
     runs: Items<Run>,
     event: &Event,
-) -> Result<Message, OutOfMemory>
-    ensures { IfOk result (λ r. r ≡ told_as ticks memory.now runs event.now) }
+) -> Result<Reply, OutOfMemory>
+    ensures { IfOk result (λ r. r ≡ replied_as ticks memory.now runs event.now) }
 {
     match event {
-        Event::Done(value) => Ok(Message::Return {
+        Event::Done(value) => Ok(Reply::Return(Return {
             ticks,
             result: normal(memory, wire_of(*value)),
             runs,
-        }),
-        Event::Cross(crossing) => call_down(alloc, ticks, memory, runs, crossing),
-        Event::Service(asked) => ask(alloc, ticks, memory, runs, asked),
-        Event::TicksOut(at) => Ok(Message::Stop {
-            ticks,
-            stop: stop_number(StopKind::Ticks),
-            at: *at,
-            runs,
-        }),
-        Event::Stop(kind, at) => Ok(Message::Stop {
-            ticks,
-            stop: stop_number(*kind),
-            at: *at,
-            runs,
-        }),
+        })),
+        Event::Cross(crossing) => Ok(Reply::Down(call_down(alloc, ticks, memory, runs, crossing)?)),
+        Event::Service(asked) => Ok(Reply::Ask(ask(alloc, ticks, memory, runs, asked)?)),
+        Event::TicksOut(at) => Ok(stop(ticks, StopKind::Ticks, *at, runs)),
+        Event::Stop(kind, at) => Ok(stop(ticks, *kind, *at, runs)),
     }
 }
 
@@ -218,5 +194,5 @@ pub(crate) fn settle(
     put(&mut state.memory, settled.memory);
     put(&mut state.view, settled.view);
     let reply = tell(alloc, used, state.memory.agreed(), runs, event)?;
-    Ok(reply)
+    Ok(Message::Reply(reply))
 }

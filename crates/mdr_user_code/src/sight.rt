@@ -20,7 +20,7 @@ use mdr_copy::{
 };
 use mdr_core::{Half, Items, Key, OutOfMemory, Plan, Program, Ty};
 use mdr_fits::{Passes, Places, args_fault, fits_result, runs_fault};
-use mdr_model::{New, Run, Told, Wire};
+use mdr_model::{Back, Call, New, Run, Told, Wire};
 use std::alloc::Global;
 
 /// The cells that user code may touch from now on, and the agreed copy.
@@ -166,17 +166,15 @@ fn called(
     alloc: Global,
     scene: Scene,
     copy: RisingBlocks,
-    func: u32,
-    args: &[Wire],
-    told: &Told,
+    call: &Call,
 ) -> Result<Option<Sight>, OutOfMemory>
     requires { IsSound scene.program.now }
-    ensures { IfOk result (λ s. s ≡ called (driver_in scene.entry) copy func args.now told.now) }
+    ensures { IfOk result (λ s. s ≡ called (driver_in scene.entry) copy call.now) }
 {
-    if !args_fit(scene.program, &copy, func, args) {
+    if !args_fit(scene.program, &copy, call.func, call.args.as_slice()) {
         return Ok(None);
     }
-    let sight = shown(alloc, scene, func, copy, told)?;
+    let sight = shown(alloc, scene, call.func, copy, &call.told)?;
     Ok(sight)
 }
 
@@ -187,23 +185,21 @@ pub(crate) fn call_sight(
     scene: Scene,
     copy: &RisingBlocks,
     entered: &[u64],
-    func: u32,
-    depth: u32,
-    args: &[Wire],
-    told: &Told,
+    call: &Call,
 ) -> Result<Option<Sight>, OutOfMemory>
     requires { IsSound scene.program.now }
-    ensures { IfOk result (λ s. s ≡ call_sight (driver_in scene.entry) copy.now entered.now func depth args.now told.now) }
+    ensures { IfOk result (λ s. s ≡ call_sight (driver_in scene.entry) copy.now entered.now call.now) }
 {
-    if !may_enter(scene.plan, func, depth) {
+    if !may_enter(scene.plan, call.func, call.depth) {
         return Ok(None);
     }
+    let told = &call.told;
     if !objects_fit(&[], told.deaths.as_slice(), entered) {
         return Ok(None);
     }
     match renewed(alloc, scene.program, copy, &told.deaths, &told.news)? {
         Some(left) => {
-            let sight = called(alloc, scene, left, func, args, told)?;
+            let sight = called(alloc, scene, left, call)?;
             Ok(sight)
         }
         None => Ok(None),
@@ -217,16 +213,15 @@ fn returned(
     copy: RisingBlocks,
     stub: u32,
     func: u32,
-    value: Wire,
-    told: &Told,
+    back: &Back,
 ) -> Result<Option<Sight>, OutOfMemory>
     requires { IsSound scene.program.now }
-    ensures { IfOk result (λ s. s ≡ returned (driver_in scene.entry) copy stub func value told.now) }
+    ensures { IfOk result (λ s. s ≡ returned (driver_in scene.entry) copy stub func back.now) }
 {
-    if !result_fits(scene.program, &copy, func, value) {
+    if !result_fits(scene.program, &copy, func, back.result) {
         return Ok(None);
     }
-    let sight = shown(alloc, scene, stub, copy, told)?;
+    let sight = shown(alloc, scene, stub, copy, &back.told)?;
     Ok(sight)
 }
 
@@ -239,18 +234,18 @@ pub(crate) fn back_sight(
     stub: u32,
     entered: &[u64],
     func: u32,
-    value: Wire,
-    told: &Told,
+    back: &Back,
 ) -> Result<Option<Sight>, OutOfMemory>
     requires { IsSound scene.program.now }
-    ensures { IfOk result (λ s. s ≡ back_sight (driver_in scene.entry) copy.now stub entered.now func value told.now) }
+    ensures { IfOk result (λ s. s ≡ back_sight (driver_in scene.entry) copy.now stub entered.now func back.now) }
 {
+    let told = &back.told;
     if !objects_fit(&[], told.deaths.as_slice(), entered) {
         return Ok(None);
     }
     match renewed(alloc, scene.program, copy, &told.deaths, &told.news)? {
         Some(left) => {
-            let sight = returned(alloc, scene, left, stub, func, value, told)?;
+            let sight = returned(alloc, scene, left, stub, func, back)?;
             Ok(sight)
         }
         None => Ok(None),

@@ -37,17 +37,14 @@ pub(crate) fn tidings(message: &Message) -> Tidings<'_>
     ensures runs { result.runs.now ≡ runs_in message.now }
 {
     match message {
-        Message::Call { told, .. } => tidings_of(told),
-        Message::Back { told, .. } => tidings_of(told),
-        Message::Answer { deaths, news, .. } => Tidings {
-            deaths: deaths.as_slice(),
-            news: news.as_slice(),
+        Message::Call(call) => tidings_of(&call.told),
+        Message::Back(back) => tidings_of(&back.told),
+        Message::Answer(answer) => Tidings {
+            deaths: answer.deaths.as_slice(),
+            news: answer.news.as_slice(),
             runs: &[],
         },
-        Message::Return { .. } => nothing(),
-        Message::Down { .. } => nothing(),
-        Message::Ask { .. } => nothing(),
-        Message::Stop { .. } => nothing(),
-        Message::Refuse { .. } => nothing(),
+        Message::Reply(_) => nothing(),
+        Message::Refuse(_) => nothing(),
     }
 }

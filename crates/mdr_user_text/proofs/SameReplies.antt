@@ -13,6 +13,9 @@ use Rattle.mdr_meaning.specs.Bodies.{body_of, known_of, started, user_side}
 use Rattle.mdr_meaning.specs.Sides.{Body, Side}
 use Rattle.mdr_meaning.specs.Tree.{Asked, Tree}
 use Rattle.mdr_model.specs.declared.memory.Cell.{Cell}
+use Rattle.mdr_model.specs.declared.message.Answer.{Answer}
+use Rattle.mdr_model.specs.declared.message.Back.{Back}
+use Rattle.mdr_model.specs.declared.message.Call.{Call}
 use Rattle.mdr_model.specs.declared.message.Fault.{Fault}
 use Rattle.mdr_model.specs.declared.message.Message.{Message}
 use Rattle.mdr_model.specs.declared.message.Message.TheVariants as message
@@ -28,7 +31,7 @@ use Rattle.mdr_split.specs.Fits.{fits, fits_result}
 use Rattle.mdr_split.specs.Law.{RepliesNeedTheUserText}
 use Rattle.mdr_split.specs.Legal.{args_fault, params_of, result_of}
 use Rattle.mdr_split.specs.Services.{leaving, results_fit}
-use Rattle.mdr_split.specs.User.{AwaitsAnswer, AwaitsBack, Delivered, Down, Nothing, Opened, Runs, User, Work, answer_fits, back_fits, begun, call_fits, cells_fit, deliver, done, entered_behind, first_user, grown, is_deeper, may_show, objects_fit, opened, runs_fit, user_after, user_places, user_reply, view_fits, when_fits}
+use Rattle.mdr_split.specs.User.{AwaitsAnswer, AwaitsBack, Delivered, Down, Nothing, Opened, Runs, User, Work, answer_fits, back_fits, begun, call_fits, cells_fit, deliver, done, entered_behind, first_user, grown, is_deeper, may_show, objects_fit, opened, resumed, runs_fit, user_after, user_places, user_reply, view_fits, when_fits}
 use Rattle.mdr_watched.specs.Driver.{Driver, driver_of, is_user, touched_by}
 use Rattle.mdr_user_text.proofs.Headings.{heading, same_params, same_result, with_funcs}
 use Rattle.mdr_user_text.proofs.SameViews.{both}
@@ -78,28 +81,29 @@ module _ (d : Driver) (funcs : List Func) (kernel : Side) (headings : (f : ℕ) 
       ∙ ap (λ (ty : Ty). fits_result (user_places d copy) ty v) (same_result (slice_get funcs func) (slice_get d.program.funcs func) (headings func))
       ∙ ap (λ (m : Memory). fits_result (user_places d m) (result_of (slice_get d.program.funcs func)) v) same
 
-  same_call : (copy : Memory) (entered : List ℕ) (below : List Down) (func depth : ℕ) (args : List Wire) (told : Told)
-      → call_fits alone copy entered below func depth args told ≡ call_fits d copy entered below func depth args told
+  same_call : (copy : Memory) (entered : List ℕ) (below : List Down) (call : Call) → call_fits alone copy entered below call ≡ call_fits d copy entered below call
   unfolding call_fits
-  same_call copy entered below func depth args told =
+  same_call copy entered below call =
+      let told : Told = call.told in
       let renewed = same_renewed d.program funcs told.deaths told.news copy in
-      ap (λ (b : Bool). is_deeper below depth && (is_user d.plan func && (nat_le depth 255 && b)))
+      ap (λ (b : Bool). is_deeper below call.depth && (is_user d.plan call.func && (nat_le call.depth 255 && b)))
       (both _ _ _ _ (same_lives d.program funcs copy told.deaths told.news)
       (ap (λ (b : Bool). objects_fit [] told.deaths entered && b)
-      (both _ _ _ _ (same_args_fit func _ _ args renewed) (same_cells_fit func _ _ told.view told.runs renewed))))
+      (both _ _ _ _ (same_args_fit call.func _ _ call.args renewed) (same_cells_fit call.func _ _ told.view told.runs renewed))))
 
-  same_back : (copy : Memory) (entered : List ℕ) (stub func : ℕ) (result : Wire) (told : Told) → back_fits alone copy entered stub func result told ≡ back_fits d copy entered stub func result told
+  same_back : (copy : Memory) (entered : List ℕ) (stub func : ℕ) (back : Back) → back_fits alone copy entered stub func back ≡ back_fits d copy entered stub func back
   unfolding back_fits
-  same_back copy entered stub func result told =
+  same_back copy entered stub func back =
+      let told : Told = back.told in
       let renewed = same_renewed d.program funcs told.deaths told.news copy in
       both _ _ _ _ (same_lives d.program funcs copy told.deaths told.news)
       (ap (λ (b : Bool). objects_fit [] told.deaths entered && b)
-      (both _ _ _ _ (same_result_fits func _ _ result renewed) (same_cells_fit stub _ _ told.view told.runs renewed)))
+      (both _ _ _ _ (same_result_fits func _ _ back.result renewed) (same_cells_fit stub _ _ told.view told.runs renewed)))
 
-  same_answer : (copy : Memory) (entered : List ℕ) (asked : Asked) (results : List Wire) (deaths : List ℕ) (news : List New) → answer_fits alone copy entered asked results deaths news ≡ answer_fits d copy entered asked results deaths news
+  same_answer : (copy : Memory) (entered : List ℕ) (asked : Asked) (answer : Answer) → answer_fits alone copy entered asked answer ≡ answer_fits d copy entered asked answer
   unfolding answer_fits
-  same_answer copy entered asked results deaths news =
-      ap (λ (b : Bool). b && (objects_fit (leaving asked.service asked.args) deaths entered && results_fit asked news results)) (same_lives d.program funcs copy deaths news)
+  same_answer copy entered asked answer =
+      ap (λ (b : Bool). b && (objects_fit (leaving asked.service asked.args) answer.deaths entered && results_fit asked answer.news answer.results)) (same_lives d.program funcs copy answer.deaths answer.news)
 
   -- ---- what a message opens
 
@@ -111,29 +115,31 @@ module _ (d : Driver) (funcs : List Func) (kernel : Side) (headings : (f : ℕ) 
       ap (λ (cs : List Cell). filter (still_live copy) seen ++ cs) (same_news_cells d.program funcs (touched_by d.plan stub) news)
       ∙ ap (λ (m : Memory). grown d stub m news seen) same
 
-  same_begun : (fuel : ℕ) (copy : Memory) (entered : List ℕ) (below : List Down) (func depth rest : ℕ) (args : List Wire) (told : Told)
-      → begun alone fuel copy entered below func depth rest args told ≡ begun d fuel copy entered below func depth rest args told
-  same_begun fuel copy entered below func depth rest args told =
-      same_when _ _ _ _ (same_call copy entered below func depth args told)
-      (ap (λ (m : Memory). Runs (started d.user fuel func args depth Tree.Idle) rest func entered (cells_of_runs told.view) m below) (same_agreed d.program funcs told copy))
+  same_begun : (fuel : ℕ) (copy : Memory) (entered : List ℕ) (below : List Down) (call : Call) → begun alone fuel copy entered below call ≡ begun d fuel copy entered below call
+  same_begun fuel copy entered below call =
+      same_when _ _ _ _ (same_call copy entered below call)
+      (ap (λ (m : Memory). Runs (started d.user fuel call.func call.args call.depth Tree.Idle) call.rest call.func entered (cells_of_runs call.told.view) m below) (same_agreed d.program funcs call.told copy))
+
+  same_resumed : (copy : Memory) (entered : List ℕ) (down : Down) (below : List Down) (back : Back) → resumed alone copy entered down below back ≡ resumed d copy entered down below back
+  same_resumed copy entered down below back =
+      same_when _ _ _ _ (same_back copy entered down.stub down.func back)
+      (ap (λ (m : Memory). Runs (down.goes back.result) back.rest down.stub entered (cells_of_runs back.told.view) m below) (same_agreed d.program funcs back.told copy))
 
   same_opened : (fuel : ℕ) (copy : Memory) (entered : List ℕ) (work : Work) (x : Message) → opened alone fuel copy entered work x ≡ opened d fuel copy entered work x
   unfolding opened
-  same_opened fuel copy entered Nothing (message.Call func depth rest args told) =
-      same_begun fuel copy entered [] func depth rest args told
+  same_opened fuel copy entered Nothing (message.Call call) = same_begun fuel copy entered [] call
   same_opened fuel copy entered Nothing _ = refl
-  same_opened fuel copy entered (AwaitsBack down below) (message.Call func depth rest args told) =
-      same_begun fuel copy entered (down ∷ below) func depth rest args told
-  same_opened fuel copy entered (AwaitsBack down below) (message.Back rest result told) =
-      same_when _ _ _ _ (same_back copy entered down.stub down.func result told)
-      (ap (λ (m : Memory). Runs (down.goes result) rest down.stub entered (cells_of_runs told.view) m below) (same_agreed d.program funcs told copy))
+  same_opened fuel copy entered (AwaitsBack down below) (message.Call call) = same_begun fuel copy entered (down ∷ below) call
+  same_opened fuel copy entered (AwaitsBack down below) (message.Back back) = same_resumed copy entered down below back
   same_opened fuel copy entered (AwaitsBack down below) _ = refl
-  same_opened fuel copy entered (AwaitsAnswer stub asked seen left goes below) (message.Answer results deaths news) =
+  same_opened fuel copy entered (AwaitsAnswer stub asked seen left goes below) (message.Answer answer) =
+      let deaths : List ℕ = answer.deaths in
+      let news : List New = answer.news in
       let renewed = same_renewed d.program funcs deaths news copy in
       let lives : List ℕ = entered_behind asked.service deaths news entered in
-      same_when _ _ _ _ (same_answer copy entered asked results deaths news)
-      (ap (λ (view : List Cell). Runs (goes results) left stub lives view (renewed_copy alone.program deaths news copy) below) (same_grown stub _ _ news seen renewed)
-      ∙ ap (λ (m : Memory). Runs (goes results) left stub lives (grown d stub (renewed_copy d.program deaths news copy) news seen) m below) renewed)
+      same_when _ _ _ _ (same_answer copy entered asked answer)
+      (ap (λ (view : List Cell). Runs (goes answer.results) left stub lives view (renewed_copy alone.program deaths news copy) below) (same_grown stub _ _ news seen renewed)
+      ∙ ap (λ (m : Memory). Runs (goes answer.results) left stub lives (grown d stub (renewed_copy d.program deaths news copy) news seen) m below) renewed)
   same_opened fuel copy entered (AwaitsAnswer stub asked seen left goes below) _ = refl
 
   -- ---- messages in turn

@@ -1,5 +1,7 @@
 use Rattle.std.proofs.Common.{◌≡◌, ◌-◌, ◌∙◌, List, sym, ap}
 use Rattle.mdr_model.specs.declared.memory.Cell.{Cell}
+use Rattle.mdr_model.specs.declared.message.Message.TheVariants as message
+use Rattle.mdr_model.specs.declared.reply.Reply.{Reply}
 use Rattle.mdr_model.specs.Copies.{put_runs}
 use Rattle.mdr_user_memory.specs.Kept.{Kept, past_in}
 use Rattle.mdr_user_code.specs.declared.state.State.{State}
@@ -13,7 +15,7 @@ settled-settled-requires c = ap (λ rs. put_runs rs c.args.memory.agreed) (c.as_
 pub returns-clause-reply : goal.returns-clause-reply
 returns-clause-reply c =
     let m : c.agreed.result.now ≡ c.args.memory.memory = c.agreed.ensures ∙ (ap (λ (k : Kept). k.agreed) c.put.ensures ∙ c.settled-settled.ensures.memory) in
-    c.in_ok-reply.ensures ∙ (λ i. told_as (c.used-used.ensures i) (m i) (c.in_ok-runs.ensures i) c.args.event.now)
+    ap (λ (r : Reply). message.Reply r) c.in_ok-reply.ensures ∙ (λ i. told_as (c.used-used.ensures i) (m i) (c.in_ok-runs.ensures i) c.args.event.now)
 
 pub returns-clause-state : goal.returns-clause-state
 returns-clause-state c = record {

@@ -1,11 +1,12 @@
-// How user code may end a run.
+// The stops that replies tell of, by their numbers.
 
 ghost use Rattle.std.specs.Prelude.{◌≡◌, ◌==◌, find};
-ghost use Rattle.mdr_model.specs.ReplyFaults.{is_stop, stop_number, user_stop};
+ghost use Rattle.mdr_model.specs.ReplyFaults.{stop_number, user_stop};
 
 use mdr_core::StopKind;
 
-fn stop_number(kind: StopKind) -> u32
+/// A stop's number, from 1.
+pub fn stop_number(kind: StopKind) -> u32
     ensures { result ≡ stop_number kind }
 {
     match kind {
@@ -39,8 +40,8 @@ fn stop_in(kinds: &[StopKind], number: u32) -> Option<StopKind>
 }
 
 /// The stop with a number, if user code may end there.
-#[tactic(auto, unfolding(mdr_model::specs::ReplyFaults::user_stop))]
-fn user_stop(number: u32) -> Option<StopKind>
+#[tactic(auto, unfolding(crate::specs::ReplyFaults::user_stop))]
+pub fn user_stop(number: u32) -> Option<StopKind>
     ensures { result ≡ user_stop number }
 {
     stop_in(
@@ -61,11 +62,4 @@ fn user_stop(number: u32) -> Option<StopKind>
         ],
         number,
     )
-}
-
-/// Whether user code may stop so. A run that is out of ticks has used them all.
-pub(crate) fn is_stop(number: u32, ticks: u64, rest: u64) -> bool
-    ensures { result ≡ is_stop number ticks rest }
-{
-    user_stop(number).is_some() && (!(number == 16) || ticks == rest)
 }

@@ -1,5 +1,0 @@
-use Rattle.mdr_events.proofs.TypeLaws.{same_tested}
-use Rattle.mdr_user_code.proofs.first.is_same_type.Goals as goal
-
-pub returns : goal.returns
-returns c = same_tested c.same_type.result c.args.a.now c.args.b.now c.same_type.ensures
