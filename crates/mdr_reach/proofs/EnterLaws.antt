@@ -1,11 +1,9 @@
 -- Cells that join the marked ones.
 use Rattle.std.proofs.Common.{◌≡◌, ℕ, zero, suc, ◌+◌, ◌-◌, ◌<◌, ◌≤◌, Bool, true, false, cond, ◌⊎◌, inl, inr, List, [], ◌∷◌, ◌++◌, Some, None, refl, sym, ◌∙◌, ap, subst, arith}
-use Rattle.std.specs.Prelude.{◌&&◌, ◌||◌, ◌==◌, if◌then◌else◌, is_some, not, slice_get}
+use Rattle.std.specs.Prelude.{◌&&◌, ◌||◌, ◌==◌, is_some, not, slice_get}
 use Rattle.std.specs.List.{list_any}
 use Rattle.std.proofs.lemmas.Bool.{and_parts, and_from, or_cases, or_left, or_right}
 use Rattle.std.proofs.lemmas.List.{append_assoc, append-nil}
-use Rattle.mdr_cells.specs.declared.name.CellName.{CellName}
-use Rattle.mdr_cells.specs.Names.{cell_of, named}
 use Rattle.mdr_core.specs.declared.plan.Key.{Key}
 use Rattle.mdr_core.specs.declared.program.Program.{Program}
 use Rattle.mdr_core.specs.Layout.{chosen}
@@ -24,23 +22,6 @@ pub same_bool : (a b : Bool) → (a ≡ true → b ≡ true) → (b ≡ true →
 same_bool true b f g = sym (f refl)
 same_bool false true f g = g refl
 same_bool false false f g = refl
-
-named_push : (xs : List CellName) (x : CellName) → named (xs ++ x ∷ []) ≡ named xs ++ cell_of x ∷ []
-named_push [] x = refl
-named_push (y ∷ xs) x = ap (λ cs. cell_of y ∷ cs) (named_push xs x)
-
-any_named : (n : CellName) (ks : List CellName) → list_any (λ (k : CellName). n.serial == k.serial && n.index == k.index) ks ≡ is_in cells (named ks) (cell_of n)
-unfolding is_in
-any_named n [] = refl
-any_named n (k ∷ ks) = ap (λ b. (n.serial == k.serial && n.index == k.index) || b) (any_named n ks)
-
-pub marked_is : (n : CellName) (ks us : List CellName) → us ≡ (if list_any (λ (k : CellName). n.serial == k.serial && n.index == k.index) ks then ks else ks ++ n ∷ [])
-    → named us ≡ chosen (is_in cells (named ks) (cell_of n)) (named ks) (named ks ++ cell_of n ∷ [])
-marked_is n ks us e = of (list_any (λ (k : CellName). n.serial == k.serial && n.index == k.index) ks) refl e
-  where
-    of : (t : Bool) → list_any (λ (k : CellName). n.serial == k.serial && n.index == k.index) ks ≡ t → us ≡ (if t then ks else ks ++ n ∷ []) → named us ≡ chosen (is_in cells (named ks) (cell_of n)) (named ks) (named ks ++ cell_of n ∷ [])
-    of true f k = ap named k ∙ ap (λ b. chosen b (named ks) (named ks ++ cell_of n ∷ [])) (sym f ∙ any_named n ks)
-    of false f k = ap named k ∙ named_push ks n ∙ ap (λ b. chosen b (named ks) (named ks ++ cell_of n ∷ [])) (sym f ∙ any_named n ks)
 
 -- ---- one cell
 

@@ -1,15 +1,18 @@
 -- Where cells and what is passed lead, by what code has at hand.
 use Rattle.std.proofs.Common.{◌≡◌, ℕ, zero, suc, ◌+◌, ◌-◌, ◌<◌, ◌≤◌, Bool, true, false, ◌⊎◌, inl, inr, List, [], ◌∷◌, ◌++◌, drop, get_or, length, map, Option, Some, None, refl, sym, ◌∙◌, ap, subst, arith}
-use Rattle.std.specs.Prelude.{◌||◌, ◌==◌, is_some, nat_lt, not, slice_get}
+use Rattle.std.specs.Prelude.{◌||◌, ◌==◌, MatchOption, is_some, nat_lt, not, slice_get}
 use Rattle.std.specs.Option.{option_map}
 use Rattle.std.proofs.lemmas.Bool.{and_parts, both_ways, cases_lt, eqb-true, eq-eqb, le-ltb, lt-ltb, ltb-true, ltb-false}
 use Rattle.std.proofs.lemmas.List.{at_drop_more, at_drop_all}
+use Rattle.std.proofs.lemmas.Option.{slice_get-map}
 use mathlib.Core.Path.{fun_ext}
 use Rattle.mdr_core.specs.declared.plan.Key.{Key}
 use Rattle.mdr_core.specs.declared.plan.Key.TheVariants as key
 use Rattle.mdr_core.specs.declared.program.Program.{Program}
 use Rattle.mdr_core.specs.declared.types.Ann.{Ann}
+use Rattle.mdr_core.specs.declared.value.Block.{Block}
 use Rattle.mdr_core.specs.declared.value.Value.{Value}
+use Rattle.mdr_core.specs.declared.value.Value.TheVariants as value
 use Rattle.mdr_core.specs.Layout.{Alone, Home, Leaf, Within, chosen, key_by}
 use Rattle.mdr_extents.specs.Around.{ann_of, global_ann, global_of, key_of, struct_start}
 use Rattle.mdr_extents.specs.CellOrder.{cells}
@@ -19,7 +22,7 @@ use Rattle.mdr_extents.proofs.CellLists.{in_from}
 use Rattle.mdr_meaning.specs.declared.wire.Wire.{Wire}
 use Rattle.mdr_meaning.specs.declared.wire.Wire.TheVariants as wire
 use Rattle.mdr_meaning.specs.Values.{wire_of}
-use Rattle.mdr_mem.specs.Contents.{Contents, wire_in}
+use Rattle.mdr_mem.specs.Contents.{Contents, current, wire_in}
 use Rattle.mdr_model.specs.declared.memory.Cell.{Cell}
 use Rattle.mdr_model.specs.declared.message.New.{New}
 use Rattle.mdr_model.specs.Memory.{Memory, born_at, cell_at, leaf_at}
@@ -326,3 +329,48 @@ nowhere program touched m born index (Some k) wire.Dead h = refl
 nowhere program touched m born index (Some k) (wire.Fn f) h = refl
 nowhere program touched m born index (Some k) (wire.Lock t) h = refl
 nowhere program touched m born index (Some k) wire.NoValue h = refl
+
+-- a cell with no pointer
+no_pointer_now : (hs : List Block) (v : Value) → IsNoPointer (wire_of v) → IsNoPointer (wire_in hs v)
+unfolding current
+no_pointer_now hs (value.Ptr p) h = absurd h
+no_pointer_now hs (value.Int k n) h = h
+no_pointer_now hs value.Null h = h
+no_pointer_now hs value.Dead h = h
+no_pointer_now hs (value.Fn f) h = h
+no_pointer_now hs (value.Lock l) h = h
+no_pointer_now hs value.NoValue h = h
+
+module _ (program : Program) (touched : List Key) (s : Contents) (h : Held) (held : IsHeld program touched s h) (index : ℕ) (lone : MatchOption (slice_get h.cells.now index) (Unit {0}) (λ v. IsNoPointer (wire_of v))) where
+  here : Cell
+  here = record { serial = h.born.serial; index = index }
+
+  lone_is : (w : Wire) → IsNoPointer w → none ≡ extent_by program touched s.memory h.born index (key_of program h.born index) w
+  lone_is w n = nowhere program touched s.memory h.born index (key_of program h.born index) w n
+
+  none_from : (w : Wire) → IsNoPointer w → cells_in program touched s.memory w none ≡ []
+  none_from (wire.Ptr p) n = absurd n
+  none_from (wire.Int k i) n = refl
+  none_from wire.Null n = refl
+  none_from wire.Dead n = refl
+  none_from (wire.Fn f) n = refl
+  none_from (wire.Lock l) n = refl
+  none_from wire.NoValue n = refl
+
+  pub lone_whole : true ≡ not (has_failed (extent_at program touched s.memory (record { serial = h.born.serial; index = index })))
+  unfolding here
+  lone_whole = of (slice_get h.cells.now index) (held.cells index ∙ slice_get-map (wire_in s.handles) h.cells.now index) lone
+    where
+      of : (o : Option Value) → cell_at s.memory here ≡ option_map (wire_in s.handles) o → MatchOption o (Unit {0}) (λ v. IsNoPointer (wire_of v)) → true ≡ not (has_failed (extent_at program touched s.memory here))
+      of None e n = whole_there program touched s.memory here e
+      of (Some v) e n = let no = no_pointer_now s.handles v n in ap (λ x. not (has_failed x)) (lone_is (wire_in s.handles v) no ∙ sym (extent_here program touched s h held index (wire_in s.handles v) e))
+
+  pub lone_led : (xs : List Cell) → xs ≡ entered (counts_at program touched s.memory) xs (led program touched s.memory (record { serial = h.born.serial; index = index }))
+  unfolding entered here
+  lone_led xs = of (slice_get h.cells.now index) (held.cells index ∙ slice_get-map (wire_in s.handles) h.cells.now index) lone
+    where
+      of : (o : Option Value) → cell_at s.memory here ≡ option_map (wire_in s.handles) o → MatchOption o (Unit {0}) (λ v. IsNoPointer (wire_of v)) → xs ≡ entered (counts_at program touched s.memory) xs (led program touched s.memory here)
+      of None e n = nothing_led program touched s.memory here xs e
+      of (Some v) e n =
+          let no = no_pointer_now s.handles v n in
+          ap (entered (counts_at program touched s.memory) xs) (sym (none_from (wire_in s.handles v) no) ∙ led_here program touched s h held index (wire_in s.handles v) none e (lone_is (wire_in s.handles v) no))

@@ -5,3 +5,5 @@ pub mod WorkLaws
 pub mod ExtentLaws
 pub mod BornLaws
 pub mod FollowLaws
+pub mod ChainLaws
+pub mod KeyLaws

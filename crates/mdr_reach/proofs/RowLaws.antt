@@ -17,6 +17,7 @@ use Rattle.mdr_reach.specs.declared.rows.Around.{Around}
 use Rattle.mdr_reach.specs.declared.rows.Around.TheVariants as around
 use Rattle.mdr_reach.specs.declared.rows.Row.{Row}
 use Rattle.mdr_reach.specs.declared.layouts.Layouts.{Layouts}
+use Rattle.mdr_reach.specs.Keys.{AreLoneKeys}
 use Rattle.mdr_reach.specs.Spots.{AreLayouts, AreRows, HasFewCells, IsRowOf, around_of, arounds_by, arounds_in, arounds_of, element_arounds, field_arounds, field_starts, in_field, known_arounds, known_offsets, offsets_in, row_at, row_by, row_or, start_in}
 
 -- ---- one element after another
@@ -318,8 +319,8 @@ module _ (structs : List StructDef) where
   start_past s f h = ap (λ fs. length (field_leaves (leaves_below structs s) s 0 fs)) (sym (ap (take f) (no_fields s h) ∙ take_none f))
 
 pub layouts_are : (program : Program) (touched : List Key) (layouts : Layouts) (structs : List StructDef) → structs ≡ program.structs → AreRows structs touched (length structs) layouts.rows
-    → layouts.lone.arounds ≡ around.Nothing ∷ [] → layouts.lone.offsets ≡ 0 ∷ [] → layouts.none.arounds ≡ [] → layouts.none.offsets ≡ [] → AreLayouts program touched layouts
-layouts_are program touched layouts structs same made a b c d = record {
+    → layouts.lone.arounds ≡ around.Nothing ∷ [] → layouts.lone.offsets ≡ 0 ∷ [] → layouts.none.arounds ≡ [] → layouts.none.offsets ≡ [] → AreLoneKeys touched layouts.keys → AreLayouts program touched layouts
+layouts_are program touched layouts structs same made a b c d keys = record {
   arounds = λ s. rows.arounds s ∙ ap (arounds_of touched) (all_cells program.structs s);
   offsets = λ s. rows.offsets s ∙ all_offsets program.structs s;
   starts = λ s f. of s f (cases_lt s (length program.structs));
@@ -328,6 +329,7 @@ layouts_are program touched layouts structs same made a b c d = record {
   lone_offset = b;
   no_arounds = c;
   no_offsets = d;
+  keys = keys;
 }
   where
     rows : AreRows program.structs touched (length program.structs) layouts.rows

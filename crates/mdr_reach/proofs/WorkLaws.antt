@@ -3,7 +3,6 @@ use Rattle.std.proofs.Common.{◌≡◌, ℕ, zero, suc, ◌+◌, ◌-◌, ◌<�
 use Rattle.std.specs.Prelude.{◌&&◌, ◌||◌, ◌==◌, is_some, nat_lt, slice_get, filter, cond}
 use Rattle.std.proofs.lemmas.Bool.{both_ways, and_parts, and_from, or_cases, or_left, or_right, cases_lt, eqb-true, eq-eqb}
 use Rattle.std.specs.Option.{option_map}
-use Rattle.std.specs.HashSet.{HashSet}
 use Rattle.std.specs.Prelude.{IfOk, MatchOption, not}
 use Rattle.std.proofs.lemmas.Option.{slice_get-map}
 use Rattle.mdr_cells.specs.declared.name.CellName.{CellName}
@@ -139,10 +138,10 @@ module _ (g : Graph cells) (counts : Cell → Bool) (same : (c : Cell) → count
         first : IsLeast g xs (cell_of name)
         first = subst (λ zs. IsLeast g zs (cell_of name)) (all_taken xs i e) had.least
 
-  pub found_all : {S : Type 0} (rising : Rises cells g.all) (marked : HashSet CellName S) (i : ℕ) (failing : Option CellName) (r : Result (HashSet CellName S) CellName) → None ≡ slice_get (named marked.keys) i
-      → IsFollowed g roots (named marked.keys) i failing → MatchOption failing (r ≡ Ok marked) (λ name. r ≡ Err name) → IsFound g roots r
-  found_all rising marked i None r e had is = subst (IsFound g roots) (sym is) (none_fails rising (named marked.keys) i e had)
-  found_all rising marked i (Some name) r e had is = subst (IsFound g roots) (sym is) (one_fails rising (named marked.keys) i e name had)
+  pub found_all : (rising : Rises cells g.all) (marked : List CellName) (i : ℕ) (failing : Option CellName) (r : Result (List CellName) CellName) → None ≡ slice_get (named marked) i
+      → IsFollowed g roots (named marked) i failing → MatchOption failing (r ≡ Ok marked) (λ name. r ≡ Err name) → IsFound g roots r
+  found_all rising marked i None r e had is = subst (IsFound g roots) (sym is) (none_fails rising (named marked) i e had)
+  found_all rising marked i (Some name) r e had is = subst (IsFound g roots) (sym is) (one_fails rising (named marked) i e name had)
 
 -- ---- the first that fails
 

@@ -2,7 +2,6 @@
 -- Cells that are marked as visible, and what the code has at hand of memory.
 use Rattle.std.specs.Prelude.{◌≡◌, ℕ, ◌+◌, ◌*◌, ◌-◌, ◌==◌, nat_lt, ℤ, pos, negsuc, Bool, true, false, not, ◌&&◌, ◌⊎◌}
 use Rattle.std.specs.Prelude.{List, [], ◌∷◌, ◌++◌, filter, map, slice_get, drop, take, Option, Some, None, is_some, Result, Ok, Err, MatchResult}
-use Rattle.std.specs.HashSet.{HashSet}
 use Rattle.mdr_access.specs.KeyOrder.{keys}
 use Rattle.mdr_cells.specs.declared.name.CellName.{CellName}
 use Rattle.mdr_cells.specs.Names.{cell_of, named}
@@ -128,8 +127,8 @@ pub record IsReached (g : Graph cells) (roots marked : List Cell) : Type 0 where
   pub whole : visible_set g roots ≡ Ok (visible g roots)
 
 -- the marked cells are these, or the first visible cell that fails is this one
-abbrev pub IsFound : {S : Type 0} → Graph cells → List Cell → Result (HashSet CellName S) CellName → Type 0
-IsFound g roots r = MatchResult r (λ marked. IsReached g roots (named marked.keys)) (λ name. visible_set g roots ≡ Err (cell_of name))
+abbrev pub IsFound : Graph cells → List Cell → Result (List CellName) CellName → Type 0
+IsFound g roots r = MatchResult r (λ marked. IsReached g roots (named marked)) (λ name. visible_set g roots ≡ Err (cell_of name))
 
 -- where a cell leads
 unfoldable pub led : Program → List Key → Memory → Cell → List Cell
@@ -214,5 +213,5 @@ pub record IsBegun (scene : Scene) (known : List Cell) (roots : Roots) (marked :
   pub followed : IsFollowed (graph_in scene) (beginning scene.program.now scene.touched.now scene.blocks.now.memory known roots) marked 0 None
 
 -- it begins so, or the first pointer that is passed and fails has this number
-abbrev pub Begins : {S : Type 0} → Scene → (known : List Cell) → Roots → Result (HashSet CellName S) ℕ → Type 0
-Begins scene known roots r = MatchResult r (λ marked. IsBegun scene known roots (named marked.keys)) (λ n. failing_in scene roots ≡ Some n)
+abbrev pub Begins : Scene → (known : List Cell) → Roots → Result (List CellName) ℕ → Type 0
+Begins scene known roots r = MatchResult r (λ marked. IsBegun scene known roots (named marked)) (λ n. failing_in scene roots ≡ Some n)

@@ -16,6 +16,7 @@ use Rattle.mdr_reach.specs.declared.rows.Around.{Around}
 use Rattle.mdr_reach.specs.declared.rows.Around.TheVariants as around
 use Rattle.mdr_reach.specs.declared.rows.Row.{Row}
 use Rattle.mdr_reach.specs.declared.layouts.Layouts.{Layouts}
+use Rattle.mdr_reach.specs.Keys.{AreLoneKeys}
 
 -- what stands around a cell, with whether its key is among these
 abbrev pub in_field : List Key → (s f : ℕ) → Around
@@ -96,6 +97,7 @@ pub record AreLayouts (program : Program) (touched : List Key) (layouts : Layout
   pub lone_offset : layouts.lone.offsets ≡ 0 ∷ []
   pub no_arounds : layouts.none.arounds ≡ []
   pub no_offsets : layouts.none.offsets ≡ []
+  pub keys : AreLoneKeys touched layouts.keys
 
 -- the row of the type with a number
 pub record IsRowOf (program : Program) (touched : List Key) (ty : ℕ) (row : Row) : Type 0 where

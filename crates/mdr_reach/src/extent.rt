@@ -12,7 +12,7 @@ ghost use Rattle.mdr_model.specs.Sets.{cells_from};
 ghost use Rattle.mdr_reach.specs.Marks.{IsHeld, block_extent, extent_long, extent_of, extent_searched, extent_single, siblings_of, value_extent};
 ghost use Rattle.mdr_reach.specs.Spots.{AreLayouts};
 
-use crate::held::{Held, block_at, is_touched};
+use crate::held::{Held, block_of, is_touched};
 use crate::layouts::{size_of, start_of};
 use crate::lengths::{Siblings, length_now};
 use crate::scene::Scene;
@@ -170,7 +170,7 @@ fn extent_view(scene: Scene<'_>, siblings: Siblings<'_>, ann: Ann, p: View) -> E
     requires { AreLayouts scene.program.now scene.touched.now scene.layouts.now }
     ensures { extent_of result ≡ value_extent scene.entry siblings.entry ann (wire.Ptr (wire_view p)) }
 {
-    match block_at(scene, p.block.serial) {
+    match block_of(scene, p.block) {
         Some(h) => extent_in(scene, h, siblings, ann, p),
         None => Extent::Elements(0),
     }

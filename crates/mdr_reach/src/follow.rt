@@ -14,11 +14,11 @@ ghost use Rattle.mdr_reach.specs.Spots.{AreLayouts};
 use crate::extent::{Extent, value_extent};
 use crate::held::{Held, around, offset, value_at};
 use crate::lengths::Siblings;
+use crate::marked::Marked;
 use crate::marks::enter_extent;
 use crate::roots::Root;
 use crate::rows::{Around, fields};
 use crate::scene::Scene;
-use indexmap::IndexSet;
 use mdr_cells::CellName;
 use mdr_core::{Ann, Key, OutOfMemory, Program, Value};
 
@@ -74,10 +74,10 @@ fn extent_around(scene: Scene<'_>, h: Held<'_>, index: u64, value: Value) -> Ext
     }
 }
 
-fn is_pointer(value: Value) -> bool
-    ensures { result ≡ false → IsNoPointer (wire_of value) }
+fn is_pointer(value: &Value) -> bool
+    ensures { result ≡ false → IsNoPointer (wire_of value.now) }
 {
-    match value {
+    match *value {
         Value::Ptr(_) => true,
         Value::Int(_, _) => false,
         Value::Null => false,
@@ -94,24 +94,34 @@ fn extent_in_cell(scene: Scene<'_>, h: Held<'_>, index: u64, value: Value) -> Ex
     requires held { IsHeld scene.program.now scene.touched.now scene.blocks.now h }
     ensures { extent_of result ≡ held_extent scene.entry h.entry index (wire_of value) }
 {
-    if is_pointer(value) {
+    if is_pointer(&value) {
         extent_around(scene, h, index, value)
     } else {
         Extent::Elements(0)
     }
 }
 
-/// Marks the cells that a cell of a block leads to. Whether its pointer doesn't fail.
-fn follow_in(
+/// Whether a cell of a block holds a pointer.
+fn holds_pointer(h: Held<'_>, index: u64) -> bool
+    ensures { result ≡ false → MatchOption (slice_get h.entry.cells.now index) (Unit {0}) (λ v. IsNoPointer (wire_of v)) }
+{
+    match h.cells.get(index as usize) {
+        Some(value) => is_pointer(value),
+        None => false,
+    }
+}
+
+/// Marks the cells that the pointer in a cell of a block leads to. Whether it doesn't fail.
+fn follow_pointer(
     scene: Scene<'_>,
-    marked: &mut IndexSet<CellName>,
+    marked: &mut Marked,
     h: Held<'_>,
     index: u64,
 ) -> Result<bool, OutOfMemory>
     requires layouts { AreLayouts scene.program.now scene.touched.now scene.layouts.now }
     requires held { IsHeld scene.program.now scene.touched.now scene.blocks.now h }
     ensures whole { IfOk result (λ t. t ≡ not (has_failed (cell_extent scene.entry (cell_in h.entry index)))) }
-    ensures marked { OnOk result (named marked.new.keys ≡ entered_in scene.entry (named marked.old.keys) (led_in scene.entry (cell_in h.entry index))) }
+    ensures marked { OnOk result (named marked.new ≡ entered_in scene.entry (named marked.old) (led_in scene.entry (cell_in h.entry index))) }
 {
     match value_at(scene, h, index) {
         Some(value) => {
@@ -123,10 +133,30 @@ fn follow_in(
     }
 }
 
+/// Marks the cells that a cell of a block leads to. Whether its pointer doesn't fail.
+fn follow_in(
+    scene: Scene<'_>,
+    marked: &mut Marked,
+    h: Held<'_>,
+    index: u64,
+) -> Result<bool, OutOfMemory>
+    requires layouts { AreLayouts scene.program.now scene.touched.now scene.layouts.now }
+    requires held { IsHeld scene.program.now scene.touched.now scene.blocks.now h }
+    ensures whole { IfOk result (λ t. t ≡ not (has_failed (cell_extent scene.entry (cell_in h.entry index)))) }
+    ensures marked { OnOk result (named marked.new ≡ entered_in scene.entry (named marked.old) (led_in scene.entry (cell_in h.entry index))) }
+{
+    if holds_pointer(h, index) {
+        let whole = follow_pointer(scene, marked, h, index)?;
+        Ok(whole)
+    } else {
+        Ok(true)
+    }
+}
+
 /// Marks the cells that a cell leads to, by its block. Whether its pointer doesn't fail.
 pub(crate) fn follow(
     scene: Scene<'_>,
-    marked: &mut IndexSet<CellName>,
+    marked: &mut Marked,
     name: CellName,
     block: Option<Held<'_>>,
 ) -> Result<bool, OutOfMemory>
@@ -134,7 +164,7 @@ pub(crate) fn follow(
     requires held { MatchOption block (born_at scene.blocks.now.memory name.serial ≡ None) (λ x. IsHeld scene.program.now scene.touched.now scene.blocks.now x) }
     requires serial { MatchOption block (Unit {0}) (λ x. x.born.serial ≡ name.serial) }
     ensures whole { IfOk result (λ t. t ≡ not (has_failed (cell_extent scene.entry (cell_of name)))) }
-    ensures marked { OnOk result (named marked.new.keys ≡ entered_in scene.entry (named marked.old.keys) (led_in scene.entry (cell_of name))) }
+    ensures marked { OnOk result (named marked.new ≡ entered_in scene.entry (named marked.old) (led_in scene.entry (cell_of name))) }
 {
     match block {
         Some(h) => {
@@ -148,13 +178,13 @@ pub(crate) fn follow(
 /// Marks the cells of what is passed. Whether it doesn't fail.
 fn enter_root(
     scene: Scene<'_>,
-    marked: &mut IndexSet<CellName>,
+    marked: &mut Marked,
     passed: &[Value],
     root: Root,
 ) -> Result<bool, OutOfMemory>
     requires layouts { AreLayouts scene.program.now scene.touched.now scene.layouts.now }
     ensures whole { IfOk result (λ t. t ≡ not (has_failed (passed_extent scene.entry (map wire_of passed.now) (root_of root)))) }
-    ensures marked { OnOk result (named marked.new.keys ≡ entered_in scene.entry (named marked.old.keys) (passed_cells scene.entry (map wire_of passed.now) (root_of root))) }
+    ensures marked { OnOk result (named marked.new ≡ entered_in scene.entry (named marked.old) (passed_cells scene.entry (map wire_of passed.now) (root_of root))) }
 {
     let extent = value_extent(scene, Siblings::Passed(passed), root.ann, root.value);
     let whole = enter_extent(scene, marked, root.value, extent)?;
@@ -171,13 +201,13 @@ fn root_at(roots: &[Root], i: usize) -> Root
 /// Marks the cells of all that is passed, up to the first that fails. Its number, if one does.
 pub(crate) fn enter_roots(
     scene: Scene<'_>,
-    marked: &mut IndexSet<CellName>,
+    marked: &mut Marked,
     passed: &[Value],
     roots: &[Root],
 ) -> Result<Option<usize>, OutOfMemory>
     requires layouts { AreLayouts scene.program.now scene.touched.now scene.layouts.now }
     ensures failing { IfOk result (λ o. o ≡ failing_in scene.entry (roots_of roots.now passed.now)) }
-    ensures marked { IfOk result (λ o. o ≡ None → named marked.new.keys ≡ entered_in scene.entry (named marked.old.keys) (passed_in scene.entry (roots_of roots.now passed.now))) }
+    ensures marked { IfOk result (λ o. o ≡ None → named marked.new ≡ entered_in scene.entry (named marked.old) (passed_in scene.entry (roots_of roots.now passed.now))) }
 {
     for i in 0..roots.len() {
         let whole = enter_root(scene, marked, passed, root_at(roots, i))?;

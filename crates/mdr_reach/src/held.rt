@@ -1,6 +1,7 @@
 // Live blocks.
 
 ghost use Rattle.std.specs.Prelude.{◌≡◌, IsTrue, MatchOption, None, Some, option_map, slice_get};
+ghost use Rattle.mdr_core.specs.declared.plan.Key.TheVariants as key;
 ghost use Rattle.mdr_core.specs.Layout.{Alone, chosen, key_by, repeated};
 ghost use Rattle.mdr_access.specs.KeyOrder.{keys as key_nodes};
 ghost use Rattle.mdr_extents.specs.Around.{global_of, offsets_of};
@@ -12,12 +13,12 @@ ghost use Rattle.mdr_paths.specs.Paths.{is_in};
 ghost use Rattle.mdr_reach.specs.Marks.{IsHeld, counts_at, is_around_touched};
 ghost use Rattle.mdr_reach.specs.Spots.{AreLayouts, around_of};
 
-use crate::keys::{is_global_listed, is_listed};
+use crate::keys::is_set;
 use crate::layouts::row_for;
 use crate::lists::item;
 use crate::rows::{Around, Row};
 use crate::scene::Scene;
-use mdr_core::{Block, Key, Program, Value};
+use mdr_core::{Block, Value};
 use mdr_mem::Cells;
 use mdr_model::New;
 use mdr_region::RegionBlocks;
@@ -63,14 +64,29 @@ fn born_of(blocks: &RegionBlocks, b: Block) -> New
     }
 }
 
-/// Whether the key of a cell that no struct is around is among those that may be touched.
-fn is_lone_touched(program: &Program, touched: &[Key], born: New) -> bool
-    ensures { result ≡ is_in key_nodes touched.now (key_by Alone (global_of program.now born) born.ty) }
+fn is_global_touched(scene: Scene<'_>, number: u64) -> bool
+    requires { AreLayouts scene.program.now scene.touched.now scene.layouts.now }
+    ensures { result ≡ is_in key_nodes scene.entry.touched.now (key.Global number) }
 {
-    if born.serial < program.globals.len() as u64 {
-        is_global_listed(touched, born.serial)
+    is_set(scene.layouts.keys.globals.as_slice(), number)
+}
+
+fn is_type_touched(scene: Scene<'_>, ty: u32) -> bool
+    requires { AreLayouts scene.program.now scene.touched.now scene.layouts.now }
+    ensures { result ≡ is_in key_nodes scene.entry.touched.now (key.Elem ty) }
+{
+    is_set(scene.layouts.keys.types.as_slice(), ty as u64)
+}
+
+/// Whether the key of a cell that no struct is around is among those that may be touched.
+fn is_lone_touched(scene: Scene<'_>, born: New) -> bool
+    requires { AreLayouts scene.program.now scene.touched.now scene.layouts.now }
+    ensures { result ≡ is_in key_nodes scene.entry.touched.now (key_by Alone (global_of scene.entry.program.now born) born.ty) }
+{
+    if born.serial < scene.program.globals.len() as u64 {
+        is_global_touched(scene, born.serial)
     } else {
-        is_listed(touched, Key::Elem(born.ty))
+        is_type_touched(scene, born.ty)
     }
 }
 
@@ -84,13 +100,13 @@ fn held_by<'a>(scene: Scene<'a>, b: Block) -> Held<'a>
     Held {
         born,
         row: row_for(scene.layouts, scene.program, scene.touched, born.ty),
-        alone: is_lone_touched(scene.program, scene.touched, born),
+        alone: is_lone_touched(scene, born),
         cells: scene.blocks.cells(b),
     }
 }
 
-/// The live block with a serial.
-pub(crate) fn block_at<'a>(scene: Scene<'a>, serial: u64) -> Option<Held<'a>>
+/// The live block with a serial, found in logarithmic time.
+fn block_found<'a>(scene: Scene<'a>, serial: u64) -> Option<Held<'a>>
     requires { AreLayouts scene.program.now scene.touched.now scene.layouts.now }
     ensures held { MatchOption result (born_at scene.entry.blocks.now.memory serial ≡ None) (λ x. IsHeld scene.entry.program.now scene.entry.touched.now scene.entry.blocks.now x) }
     ensures serial { MatchOption result (Unit {0}) (λ x. x.born.serial ≡ serial) }
@@ -99,6 +115,31 @@ pub(crate) fn block_at<'a>(scene: Scene<'a>, serial: u64) -> Option<Held<'a>>
     match scene.blocks.find(serial) {
         Some(b) => Some(held_by(scene, b)),
         None => None,
+    }
+}
+
+/// The live block with a handle's serial, which mostly is in the handle's slot.
+pub(crate) fn block_of<'a>(scene: Scene<'a>, b: Block) -> Option<Held<'a>>
+    requires { AreLayouts scene.program.now scene.touched.now scene.layouts.now }
+    ensures held { MatchOption result (born_at scene.entry.blocks.now.memory b.serial ≡ None) (λ x. IsHeld scene.entry.program.now scene.entry.touched.now scene.entry.blocks.now x) }
+    ensures serial { MatchOption result (Unit {0}) (λ x. x.born.serial ≡ b.serial) }
+{
+    if scene.blocks.alive(b) {
+        Some(held_by(scene, b))
+    } else {
+        block_found(scene, b.serial)
+    }
+}
+
+/// The live block with a serial. Until a block dies each is in the slot that has its serial as its number.
+pub(crate) fn block_at<'a>(scene: Scene<'a>, serial: u64) -> Option<Held<'a>>
+    requires { AreLayouts scene.program.now scene.touched.now scene.layouts.now }
+    ensures held { MatchOption result (born_at scene.entry.blocks.now.memory serial ≡ None) (λ x. IsHeld scene.entry.program.now scene.entry.touched.now scene.entry.blocks.now x) }
+    ensures serial { MatchOption result (Unit {0}) (λ x. x.born.serial ≡ serial) }
+{
+    match u32::try_from(serial) {
+        Ok(slot) => block_of(scene, Block { slot, serial }),
+        Err(_) => block_found(scene, serial),
     }
 }
 

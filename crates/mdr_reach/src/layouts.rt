@@ -6,13 +6,16 @@ ghost use Rattle.mdr_core.specs.Layout.{field_start};
 ghost use Rattle.mdr_meaning.specs.Pointers.{size};
 ghost use Rattle.mdr_reach.specs.Spots.{AreLayouts, HasFewCells, IsRowOf, row_at, row_by, row_or, start_in};
 
+use crate::keys::{LoneKeys, lone_keys};
 use crate::rows::{Around, Row, no_cells, push_scalar, rows_of};
 use mdr_core::{Items, Key, OutOfMemory, Program, Ty};
 use std::alloc::Global;
 
-/// The rows of structs, that of a scalar, and that of nothing.
+/// The rows of structs, that of a scalar, and that of nothing; and the keys that may be touched of cells that no struct is
+/// around.
 #[derive(Drop)]
 pub struct Layouts {
+    pub keys: LoneKeys,
     pub rows: Items<Row>,
     pub lone: Row,
     pub none: Row,
@@ -26,11 +29,17 @@ pub(crate) fn layouts_of(
 ) -> Result<Layouts, OutOfMemory>
     ensures { IfOk result (AreLayouts program.now touched.now) }
 {
+    let keys = lone_keys(alloc, touched)?;
     let rows = rows_of(alloc, program.structs.as_slice(), touched)?;
     let mut lone = no_cells(alloc);
     push_scalar(&mut lone, Around::Nothing)?;
     let none = no_cells(alloc);
-    Ok(Layouts { rows, lone, none })
+    Ok(Layouts {
+        keys,
+        rows,
+        lone,
+        none,
+    })
 }
 
 /// The row of a struct.

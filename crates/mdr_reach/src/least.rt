@@ -11,8 +11,8 @@ ghost use Rattle.mdr_reach.specs.Spots.{AreLayouts};
 
 use crate::follow::follow;
 use crate::held::Held;
+use crate::marked::Marked;
 use crate::scene::Scene;
-use indexmap::IndexSet;
 use mdr_cells::CellName;
 use mdr_core::OutOfMemory;
 
@@ -38,7 +38,7 @@ fn with_failing(failing: Option<CellName>, name: CellName) -> CellName
 /// Marks the cells that a cell leads to, by its block. The first cell that fails, where this was the first before.
 pub(crate) fn follow_on(
     scene: Scene<'_>,
-    marked: &mut IndexSet<CellName>,
+    marked: &mut Marked,
     name: CellName,
     block: Option<Held<'_>>,
     failing: Option<CellName>,
@@ -47,7 +47,7 @@ pub(crate) fn follow_on(
     requires held { MatchOption block (born_at scene.blocks.now.memory name.serial ≡ None) (λ x. IsHeld scene.program.now scene.touched.now scene.blocks.now x) }
     requires serial { MatchOption block (Unit {0}) (λ x. x.born.serial ≡ name.serial) }
     ensures least { (cs : List Cell) → IsLeastOf (graph_in scene.entry) cs failing → IfOk result (IsLeastOf (graph_in scene.entry) (cs ++ cell_of name ∷ [])) }
-    ensures marked { OnOk result (named marked.new.keys ≡ entered_in scene.entry (named marked.old.keys) (led_in scene.entry (cell_of name))) }
+    ensures marked { OnOk result (named marked.new ≡ entered_in scene.entry (named marked.old) (led_in scene.entry (cell_of name))) }
 {
     let whole = follow(scene, marked, name, block)?;
     if whole {

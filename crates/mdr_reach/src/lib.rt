@@ -3,6 +3,7 @@
 #![tactic(auto)]
 
 mod born;
+mod chains;
 mod extent;
 mod failing;
 mod follow;
@@ -12,6 +13,7 @@ mod layouts;
 mod least;
 mod lengths;
 mod lists;
+mod marked;
 mod marks;
 mod numbers;
 mod reaching;

@@ -15,39 +15,23 @@ ghost use Rattle.mdr_reach.specs.Marks.{AreMarkedIn, IsHeld, cell_in, entered_in
 ghost use Rattle.mdr_reach.specs.Spots.{AreLayouts};
 
 use crate::extent::{Extent, element_size};
-use crate::held::{Held, block_at, block_behind, counts};
+use crate::held::{Held, block_at, block_behind, block_of, counts};
+use crate::marked::Marked;
 use crate::scene::Scene;
-use indexmap::IndexSet;
 use mdr_cells::CellName;
-use mdr_core::{OutOfMemory, Value, View};
+use mdr_core::{Block, OutOfMemory, Value, View};
 use std::alloc::Global;
 
-/// Marks a cell, unless it is marked.
-fn mark(marked: &mut IndexSet<CellName>, name: CellName) -> Result<(), OutOfMemory>
-    ensures { OnOk result (named marked.new.keys ≡ chosen (is_in cells (named marked.old.keys) (cell_of name)) (named marked.old.keys) (named marked.old.keys ++ cell_of name ∷ [])) }
-{
-    marked.insert(name)?;
-    Ok(())
-}
-
 /// Marks a cell of a block, if it counts.
-fn enter(
-    scene: Scene<'_>,
-    marked: &mut IndexSet<CellName>,
-    h: Held<'_>,
-    index: u64,
-) -> Result<(), OutOfMemory>
+fn enter(scene: Scene<'_>, marked: &mut Marked, h: Held<'_>, index: u64) -> Result<(), OutOfMemory>
     requires { IsHeld scene.program.now scene.touched.now scene.blocks.now h }
-    ensures { OnOk result (named marked.new.keys ≡ with_cell_in scene.entry (named marked.old.keys) (cell_in h.entry index)) }
+    ensures { OnOk result (named marked.new ≡ with_cell_in scene.entry (named marked.old) (cell_in h.entry index)) }
 {
     if counts(scene, h, index) {
-        mark(
-            marked,
-            CellName {
-                serial: h.born.serial,
-                index,
-            },
-        )?;
+        marked.mark(CellName {
+            serial: h.born.serial,
+            index,
+        })?;
         Ok(())
     } else {
         Ok(())
@@ -75,13 +59,13 @@ fn end_of(first: u64, count: u64, cells: usize) -> u64
 #[tactic(auto, unfolding(crate::specs::Marks::entered))]
 fn enter_in(
     scene: Scene<'_>,
-    marked: &mut IndexSet<CellName>,
+    marked: &mut Marked,
     h: Held<'_>,
     first: u64,
     count: u64,
 ) -> Result<(), OutOfMemory>
     requires held { IsHeld scene.program.now scene.touched.now scene.blocks.now h }
-    ensures { OnOk result (named marked.new.keys ≡ entered_in scene.entry (named marked.old.keys) (cells_from h.entry.born.serial first count)) }
+    ensures { OnOk result (named marked.new ≡ entered_in scene.entry (named marked.old) (cells_from h.entry.born.serial first count)) }
 {
     let end = end_of(first, count, h.cells.len());
     let mut index = first;
@@ -92,18 +76,18 @@ fn enter_in(
     Ok(())
 }
 
-/// Those of the block with a serial, if it lives.
+/// Those of the block of a handle, if it lives.
 fn enter_from(
     scene: Scene<'_>,
-    marked: &mut IndexSet<CellName>,
-    serial: u64,
+    marked: &mut Marked,
+    block: Block,
     first: u64,
     count: u64,
 ) -> Result<(), OutOfMemory>
     requires { AreLayouts scene.program.now scene.touched.now scene.layouts.now }
-    ensures { OnOk result (named marked.new.keys ≡ entered_in scene.entry (named marked.old.keys) (cells_from serial first count)) }
+    ensures { OnOk result (named marked.new ≡ entered_in scene.entry (named marked.old) (cells_from block.serial first count)) }
 {
-    match block_at(scene, serial) {
+    match block_of(scene, block) {
         Some(h) => {
             enter_in(scene, marked, h, first, count)?;
             Ok(())
@@ -115,17 +99,17 @@ fn enter_from(
 /// Those of so many elements from a pointer on.
 fn enter_elements(
     scene: Scene<'_>,
-    marked: &mut IndexSet<CellName>,
+    marked: &mut Marked,
     p: View,
     count: u32,
 ) -> Result<(), OutOfMemory>
     requires { AreLayouts scene.program.now scene.touched.now scene.layouts.now }
-    ensures { OnOk result (named marked.new.keys ≡ entered_in scene.entry (named marked.old.keys) (target_cells scene.entry (wire.Ptr (wire_view p)) (Elements count))) }
+    ensures { OnOk result (named marked.new ≡ entered_in scene.entry (named marked.old) (target_cells scene.entry (wire.Ptr (wire_view p)) (Elements count))) }
 {
     let size = element_size(scene, p.ty);
     let first = p.first as u64 + p.index as u64 * size as u64;
     let cells = count as u64 * size as u64;
-    enter_from(scene, marked, p.block.serial, first, cells)?;
+    enter_from(scene, marked, p.block, first, cells)?;
     Ok(())
 }
 
@@ -133,12 +117,12 @@ fn enter_elements(
 #[tactic(auto, unfolding(crate::specs::Marks::entered))]
 fn enter_target(
     scene: Scene<'_>,
-    marked: &mut IndexSet<CellName>,
+    marked: &mut Marked,
     value: Value,
     count: u32,
 ) -> Result<(), OutOfMemory>
     requires { AreLayouts scene.program.now scene.touched.now scene.layouts.now }
-    ensures { OnOk result (named marked.new.keys ≡ entered_in scene.entry (named marked.old.keys) (target_cells scene.entry (wire_of value) (Elements count))) }
+    ensures { OnOk result (named marked.new ≡ entered_in scene.entry (named marked.old) (target_cells scene.entry (wire_of value) (Elements count))) }
 {
     match value {
         Value::Ptr(p) => {
@@ -157,13 +141,13 @@ fn enter_target(
 /// Those of a value's extent. Whether it doesn't fail: then nothing is marked.
 pub(crate) fn enter_extent(
     scene: Scene<'_>,
-    marked: &mut IndexSet<CellName>,
+    marked: &mut Marked,
     value: Value,
     extent: Extent,
 ) -> Result<bool, OutOfMemory>
     requires { AreLayouts scene.program.now scene.touched.now scene.layouts.now }
     ensures whole { IfOk result (λ t. t ≡ not (has_failed (extent_of extent))) }
-    ensures marked { OnOk result (named marked.new.keys ≡ entered_in scene.entry (named marked.old.keys) (target_cells scene.entry (wire_of value) (extent_of extent))) }
+    ensures marked { OnOk result (named marked.new ≡ entered_in scene.entry (named marked.old) (target_cells scene.entry (wire_of value) (extent_of extent))) }
 {
     match extent {
         Extent::Elements(count) => {
@@ -177,13 +161,13 @@ pub(crate) fn enter_extent(
 /// Marks a cell by its name and block, if it counts.
 fn enter_name(
     scene: Scene<'_>,
-    marked: &mut IndexSet<CellName>,
+    marked: &mut Marked,
     name: CellName,
     block: Option<Held<'_>>,
 ) -> Result<(), OutOfMemory>
     requires held { MatchOption block (born_at scene.blocks.now.memory name.serial ≡ None) (λ x. IsHeld scene.program.now scene.touched.now scene.blocks.now x) }
     requires serial { MatchOption block (Unit {0}) (λ x. x.born.serial ≡ name.serial) }
-    ensures { OnOk result (named marked.new.keys ≡ with_cell_in scene.entry (named marked.old.keys) (cell_of name)) }
+    ensures { OnOk result (named marked.new ≡ with_cell_in scene.entry (named marked.old) (cell_of name)) }
 {
     match block {
         Some(h) => {
@@ -198,11 +182,11 @@ fn enter_name(
 #[tactic(auto, unfolding(crate::specs::Marks::entered))]
 pub(crate) fn enter_names(
     scene: Scene<'_>,
-    marked: &mut IndexSet<CellName>,
+    marked: &mut Marked,
     names: &[CellName],
 ) -> Result<(), OutOfMemory>
     requires { AreLayouts scene.program.now scene.touched.now scene.layouts.now }
-    ensures { OnOk result (named marked.new.keys ≡ entered_in scene.entry (named marked.old.keys) (named names.now)) }
+    ensures { OnOk result (named marked.new ≡ entered_in scene.entry (named marked.old) (named names.now)) }
 {
     let mut last = None;
     for name in names {
@@ -214,13 +198,9 @@ pub(crate) fn enter_names(
 }
 
 /// Marks all cells of a global that count.
-fn enter_global(
-    scene: Scene<'_>,
-    marked: &mut IndexSet<CellName>,
-    global: u64,
-) -> Result<(), OutOfMemory>
+fn enter_global(scene: Scene<'_>, marked: &mut Marked, global: u64) -> Result<(), OutOfMemory>
     requires layouts { AreLayouts scene.program.now scene.touched.now scene.layouts.now }
-    ensures { (test : Cell → Bool) → AreMarkedIn scene.entry test (named marked.old.keys) → OnOk result (AreMarkedIn scene.entry (λ c. test c || (c.serial == global)) (named marked.new.keys)) }
+    ensures { (test : Cell → Bool) → AreMarkedIn scene.entry test (named marked.old) → OnOk result (AreMarkedIn scene.entry (λ c. test c || (c.serial == global)) (named marked.new)) }
 {
     match block_at(scene, global) {
         Some(h) => {
@@ -232,14 +212,11 @@ fn enter_global(
 }
 
 /// Marks all cells of the globals that count.
-pub(crate) fn marked_globals(
-    alloc: Global,
-    scene: Scene<'_>,
-) -> Result<IndexSet<CellName>, OutOfMemory>
+pub(crate) fn marked_globals(alloc: Global, scene: Scene<'_>) -> Result<Marked, OutOfMemory>
     requires { AreLayouts scene.program.now scene.touched.now scene.layouts.now }
-    ensures { IfOk result (λ marked. AreMarkedIn scene.entry (λ c. nat_lt c.serial (length scene.entry.program.now.globals)) (named marked.keys)) }
+    ensures { IfOk result (λ marked. AreMarkedIn scene.entry (λ c. nat_lt c.serial (length scene.entry.program.now.globals)) (named marked)) }
 {
-    let mut marked = IndexSet::new(alloc);
+    let mut marked = Marked::new(alloc);
     for global in 0..scene.program.globals.len() {
         enter_global(scene, &mut marked, global as u64)?;
     }

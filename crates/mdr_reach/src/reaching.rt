@@ -16,10 +16,10 @@ use crate::follow::enter_roots;
 use crate::held::block_behind;
 use crate::layouts::layouts_of;
 use crate::least::follow_on;
+use crate::marked::Marked;
 use crate::marks::{enter_names, marked_globals};
 use crate::roots::Root;
 use crate::scene::Scene;
-use indexmap::IndexSet;
 use mdr_cells::{CellName, CellSet};
 use mdr_core::{Key, OutOfMemory, Program, Value};
 use mdr_mem::Cells;
@@ -27,18 +27,15 @@ use mdr_region::RegionBlocks;
 use std::alloc::Global;
 
 /// The marked cell with a number.
-fn name_at(marked: &IndexSet<CellName>, i: usize) -> CellName
-    requires { i < length marked.now.keys }
-    ensures { slice_get marked.now.keys i ≡ Some result }
+fn name_at(marked: &Marked, i: usize) -> CellName
+    requires { i < length marked.now }
+    ensures { slice_get marked.now i ≡ Some result }
 {
-    marked.as_slice()[i]
+    marked.names()[i]
 }
 
 /// The marked cells, unless one fails.
-fn unless_failing(
-    marked: IndexSet<CellName>,
-    failing: Option<CellName>,
-) -> Result<IndexSet<CellName>, CellName>
+fn unless_failing(marked: Marked, failing: Option<CellName>) -> Result<Marked, CellName>
     ensures { MatchOption failing (result ≡ Ok marked) (λ name. result ≡ Err name) }
 {
     match failing {
@@ -49,19 +46,16 @@ fn unless_failing(
 
 /// Marks all cells that the marked ones lead to, each cell that is marked being followed in its turn; or the first cell in
 /// their order whose pointer fails.
-fn reached(
-    scene: Scene<'_>,
-    marked: IndexSet<CellName>,
-) -> Result<Result<IndexSet<CellName>, CellName>, OutOfMemory>
+fn reached(scene: Scene<'_>, marked: Marked) -> Result<Result<Marked, CellName>, OutOfMemory>
     requires { AreLayouts scene.program.now scene.touched.now scene.layouts.now }
-    ensures { (roots : List Cell) → IsFollowed (graph_in scene.entry) roots (named marked.keys) 0 None → IfOk result (IsFound (graph_in scene.entry) roots) }
+    ensures { (roots : List Cell) → IsFollowed (graph_in scene.entry) roots (named marked) 0 None → IfOk result (IsFound (graph_in scene.entry) roots) }
 {
     let _in_order = scene.blocks.births();
     let mut marked = marked;
     let mut failing = None;
     let mut last = None;
     let mut i = 0;
-    while i < marked.len() {
+    while i < marked.names().len() {
         let name = name_at(&marked, i);
         let block = block_behind(scene, last, name.serial);
         failing = follow_on(scene, &mut marked, name, block, failing)?;
@@ -78,7 +72,7 @@ fn begun(
     known: &CellSet,
     roots: &[Root],
     passed: &[Value],
-) -> Result<Result<IndexSet<CellName>, usize>, OutOfMemory>
+) -> Result<Result<Marked, usize>, OutOfMemory>
     requires { AreLayouts scene.program.now scene.touched.now scene.layouts.now }
     ensures { IfOk result (Begins scene.entry known.now (roots_of roots.now passed.now)) }
 {
@@ -92,11 +86,11 @@ fn begun(
 }
 
 /// The marked cells as a set.
-fn set_of(alloc: Global, marked: &IndexSet<CellName>) -> Result<CellSet, OutOfMemory>
+fn set_of(alloc: Global, marked: &Marked) -> Result<CellSet, OutOfMemory>
     ensures rises { IfOk result (λ set. Rises cells set) }
-    ensures same { IfOk result (λ set. (c : Cell) → is_in cells set c ≡ is_in cells (named marked.now.keys) c) }
+    ensures same { IfOk result (λ set. (c : Cell) → is_in cells set c ≡ is_in cells (named marked.now) c) }
 {
-    let names = Vec::from_slice(alloc, marked.as_slice())?;
+    let names = Vec::from_slice(alloc, marked.names())?;
     Ok(CellSet::of(names))
 }
 
@@ -104,10 +98,10 @@ fn set_of(alloc: Global, marked: &IndexSet<CellName>) -> Result<CellSet, OutOfMe
 fn set_from(
     alloc: Global,
     scene: Scene<'_>,
-    marked: IndexSet<CellName>,
+    marked: Marked,
 ) -> Result<Result<CellSet, Failing>, OutOfMemory>
     requires { AreLayouts scene.program.now scene.touched.now scene.layouts.now }
-    ensures { (known : List Cell) (roots : Roots) → IsBegun scene.entry known roots (named marked.keys) → IfOk result (λ r. answered r ≡ visible_in scene.entry known roots) }
+    ensures { (known : List Cell) (roots : Roots) → IsBegun scene.entry known roots (named marked) → IfOk result (λ r. answered r ≡ visible_in scene.entry known roots) }
 {
     let _in_order = scene.blocks.births();
     match reached(scene, marked)? {

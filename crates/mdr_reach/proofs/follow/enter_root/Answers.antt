@@ -14,5 +14,5 @@ returns-clause-whole c =
 
 pub returns-clause-marked : goal.returns-clause-marked
 returns-clause-marked c =
-    c.in_ok-whole.ensures.marked ∙ ap (λ x. entered (counts_at c.args.scene.program.now c.args.scene.touched.now c.args.scene.blocks.now.memory) (named c.args.marked.now.keys) (cells_in c.args.scene.program.now c.args.scene.touched.now c.args.scene.blocks.now.memory (wire_of c.args.root.value) x))
+    c.in_ok-whole.ensures.marked ∙ ap (λ x. entered (counts_at c.args.scene.program.now c.args.scene.touched.now c.args.scene.blocks.now.memory) (named c.args.marked.now) (cells_in c.args.scene.program.now c.args.scene.touched.now c.args.scene.blocks.now.memory (wire_of c.args.root.value) x))
     (root_is c.args.scene.program.now c.args.scene.touched.now c.args.scene.blocks.now.memory c.args.passed.now (root_of c.args.root) (extent_of c.value_extent-extent.result) c.value_extent-extent.ensures)

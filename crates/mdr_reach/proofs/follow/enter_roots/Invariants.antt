@@ -15,5 +15,5 @@ invariant-loop-i l =
     let passed = map wire_of l.passed in
     record {
       failing : failing_from program touched m passed (map root_of (drop l.i l.roots)) l.i ≡ first_failing program touched m passed (map root_of l.roots);
-      marked : entered (counts_at program touched m) (named l.marked.keys) (root_cells program touched m passed (map root_of (drop l.i l.roots))) ≡ entered (counts_at program touched m) (named l.fn.marked.keys) (root_cells program touched m passed (map root_of l.roots));
+      marked : entered (counts_at program touched m) (named l.marked) (root_cells program touched m passed (map root_of (drop l.i l.roots))) ≡ entered (counts_at program touched m) (named l.fn.marked) (root_cells program touched m passed (map root_of l.roots));
     }

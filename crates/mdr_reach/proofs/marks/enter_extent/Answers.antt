@@ -8,5 +8,5 @@ use Rattle.mdr_reach.proofs.marks.enter_extent.Goals as goal
 
 pub returns-in-Fails-clause-marked : goal.returns-in-Fails-clause-marked
 returns-in-Fails-clause-marked c =
-    failed_enters c.args.scene.program.now c.args.scene.touched.now c.args.scene.blocks.now.memory (counts_at c.args.scene.program.now c.args.scene.touched.now c.args.scene.blocks.now.memory) (named c.args.marked.now.keys) (wire_of c.args.value)
-    ∙ ap (λ e. entered (counts_at c.args.scene.program.now c.args.scene.touched.now c.args.scene.blocks.now.memory) (named c.args.marked.now.keys) (cells_in c.args.scene.program.now c.args.scene.touched.now c.args.scene.blocks.now.memory (wire_of c.args.value) (extent_of e))) (sym c.in-Fails.is)
+    failed_enters c.args.scene.program.now c.args.scene.touched.now c.args.scene.blocks.now.memory (counts_at c.args.scene.program.now c.args.scene.touched.now c.args.scene.blocks.now.memory) (named c.args.marked.now) (wire_of c.args.value)
+    ∙ ap (λ e. entered (counts_at c.args.scene.program.now c.args.scene.touched.now c.args.scene.blocks.now.memory) (named c.args.marked.now) (cells_in c.args.scene.program.now c.args.scene.touched.now c.args.scene.blocks.now.memory (wire_of c.args.value) (extent_of e))) (sym c.in-Fails.is)

@@ -6,8 +6,8 @@ use Rattle.mdr_reach.proofs.marks.enter_in.Given as goal
 
 abbrev pub invariant-loop-index : goal.invariant-loop-index
 invariant-loop-index l =
-    entered (counts_at l.scene.program.now l.scene.touched.now l.scene.blocks.now.memory) (named l.marked.keys) (cells_from l.h.born.serial l.index (l.end - l.index))
-    ≡ entered (counts_at l.scene.program.now l.scene.touched.now l.scene.blocks.now.memory) (named l.fn.marked.keys) (cells_from l.h.born.serial l.first l.count)
+    entered (counts_at l.scene.program.now l.scene.touched.now l.scene.blocks.now.memory) (named l.marked) (cells_from l.h.born.serial l.index (l.end - l.index))
+    ≡ entered (counts_at l.scene.program.now l.scene.touched.now l.scene.blocks.now.memory) (named l.fn.marked) (cells_from l.h.born.serial l.first l.count)
 
 abbrev pub decreases-loop-index : goal.decreases-loop-index
 decreases-loop-index l = l.end - l.index

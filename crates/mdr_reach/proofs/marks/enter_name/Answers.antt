@@ -11,7 +11,7 @@ enter-requires c = held_some c.args.scene.program.now c.args.scene.touched.now c
 pub returns-in_ok-enter-in-Some : goal.returns-in_ok-enter-in-Some
 returns-in_ok-enter-in-Some c =
     c.in_ok-enter-in-Some.ensures
-    ∙ ap (λ (n : ℕ). with_cell (counts_at c.args.scene.program.now c.args.scene.touched.now c.args.scene.blocks.now.memory) (named c.args.marked.now.keys) (record { serial = n; index = c.args.name.index })) (serial_some c.args.scene.program.now c.args.scene.touched.now c.args.scene.blocks.now c.args.name.serial c.args.block c.in-Some.h c.in-Some.is c.requires.serial)
+    ∙ ap (λ (n : ℕ). with_cell (counts_at c.args.scene.program.now c.args.scene.touched.now c.args.scene.blocks.now.memory) (named c.args.marked.now) (record { serial = n; index = c.args.name.index })) (serial_some c.args.scene.program.now c.args.scene.touched.now c.args.scene.blocks.now c.args.name.serial c.args.block c.in-Some.h c.in-Some.is c.requires.serial)
 
 pub returns-in-None : goal.returns-in-None
-returns-in-None c = dead_joins c.args.scene.program.now c.args.scene.touched.now c.args.scene.blocks.now.memory (named c.args.marked.now.keys) (cell_of c.args.name) (held_none c.args.scene.program.now c.args.scene.touched.now c.args.scene.blocks.now c.args.name.serial c.args.block c.in-None.is c.requires.held)
+returns-in-None c = dead_joins c.args.scene.program.now c.args.scene.touched.now c.args.scene.blocks.now.memory (named c.args.marked.now) (cell_of c.args.name) (held_none c.args.scene.program.now c.args.scene.touched.now c.args.scene.blocks.now c.args.name.serial c.args.block c.in-None.is c.requires.held)

@@ -11,7 +11,7 @@ returns-in_ok-set-in-Ok c known roots begun =
     let touched = c.args.scene.touched.now in
     let m = c.args.scene.blocks.now.memory in
     let all = beginning program touched m known roots in
-    set_is program touched m c.births-in_order.ensures.in_order.rises known roots (named c.in-Ok.all.keys) c.in_ok-set-in-Ok.set begun.passes
+    set_is program touched m c.births-in_order.ensures.in_order.rises known roots (named c.in-Ok.all) c.in_ok-set-in-Ok.set begun.passes
     (subst (IsFound (graph_in c.args.scene) all) c.in-Ok.is (c.in_ok-all.ensures all begun.followed))
     c.in_ok-set-in-Ok.ensures.rises c.in_ok-set-in-Ok.ensures.same
 

@@ -1,6 +1,6 @@
 use Rattle.std.proofs.Common.{sym, ◌∙◌}
 use Rattle.mdr_reach.proofs.BlockLaws.{handle_found, none_born}
-use Rattle.mdr_reach.proofs.held.block_at.Goals as goal
+use Rattle.mdr_reach.proofs.held.block_found.Goals as goal
 
 pub held_by-requires-clause-alive : goal.held_by-requires-clause-alive
 held_by-requires-clause-alive c = (handle_found c.args.scene.blocks.now.handles c.args.serial c.in-Some.b (sym c.find.ensures ∙ c.in-Some.is)).0
