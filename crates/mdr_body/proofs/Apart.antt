@@ -17,13 +17,13 @@ use Rattle.mdr_faults.specs.Faults.{Checked, told}
 use Rattle.mdr_operand.specs.Written.{Line, Lines, Labelled, node_what_written, clause_written, node_written}
 use Rattle.mdr_body.specs.declared.here.Frame.{Frame}
 use Rattle.mdr_body.specs.declared.here.Here.{Here}
-use Rattle.mdr_body.specs.declared.here.Jumps.{Jumps}
+use Rattle.mdr_body.specs.declared.here.Standing.{Standing}
 use Rattle.mdr_body.specs.Locals.{numbered}
 use Rattle.mdr_body.specs.Addresses.{line_what}
 use Rattle.mdr_body.specs.Simple.{declares}
-use Rattle.mdr_body.specs.Statements.{Rules, simple_made, simple_behind, line_made, line_behind}
+use Rattle.mdr_body.specs.Statements.{Setting, simple_made, simple_behind, line_made, line_behind}
 
-differ : true ≡ false → ⊥
+pub differ : true ≡ false → ⊥
 differ h = cc
 
 abbrev Layer : Type 0
@@ -106,20 +106,20 @@ behind_plain scope frame here t (Line.Return p e) h = refl
 behind_plain scope frame here t (Line.Break p) h = refl
 behind_plain scope frame here t (Line.Continue p) h = refl
 
-simple_line : (rules : Rules) (scope : Scope) (frame : Frame) (jumps : Jumps) (is_part : Bool) (here : Here) (t : Bool) (l : Line) → has_parts l ≡ false → line_made rules scope frame jumps is_part here t l ≡ simple_made rules scope frame jumps here t l
-simple_line rules scope frame jumps is_part here t (Line.Empty p) h = refl
-simple_line rules scope frame jumps is_part here t (Line.Block p ls) h = absurd (differ h)
-simple_line rules scope frame jumps is_part here t (Line.Local p d init) h = refl
-simple_line rules scope frame jumps is_part here t (Line.Assign p at op a b) h = refl
-simple_line rules scope frame jumps is_part here t (Line.Plain p w) h = refl
-simple_line rules scope frame jumps is_part here t (Line.If p e one other) h = absurd (differ h)
-simple_line rules scope frame jumps is_part here t (Line.While p e body) h = absurd (differ h)
-simple_line rules scope frame jumps is_part here t (Line.For p init test step body) h = absurd (differ h)
-simple_line rules scope frame jumps is_part here t (Line.Do p body e) h = absurd (differ h)
-simple_line rules scope frame jumps is_part here t (Line.Switch p e cs) h = absurd (differ h)
-simple_line rules scope frame jumps is_part here t (Line.Return p e) h = refl
-simple_line rules scope frame jumps is_part here t (Line.Break p) h = refl
-simple_line rules scope frame jumps is_part here t (Line.Continue p) h = refl
+simple_line : (setting : Setting) (standing : Standing) (here : Here) (l : Line) → has_parts l ≡ false → line_made setting standing here l ≡ simple_made setting standing.jumps here standing.is_taken l
+simple_line setting standing here (Line.Empty p) h = refl
+simple_line setting standing here (Line.Block p ls) h = absurd (differ h)
+simple_line setting standing here (Line.Local p d init) h = refl
+simple_line setting standing here (Line.Assign p at op a b) h = refl
+simple_line setting standing here (Line.Plain p w) h = refl
+simple_line setting standing here (Line.If p e one other) h = absurd (differ h)
+simple_line setting standing here (Line.While p e body) h = absurd (differ h)
+simple_line setting standing here (Line.For p init test step body) h = absurd (differ h)
+simple_line setting standing here (Line.Do p body e) h = absurd (differ h)
+simple_line setting standing here (Line.Switch p e cs) h = absurd (differ h)
+simple_line setting standing here (Line.Return p e) h = refl
+simple_line setting standing here (Line.Break p) h = refl
+simple_line setting standing here (Line.Continue p) h = refl
 
 behind_simple : (scope : Scope) (frame : Frame) (here : Here) (t : Bool) (l : Line) → has_parts l ≡ false → line_behind scope frame here t l ≡ numbered (simple_behind scope frame here t l)
 behind_simple scope frame here t (Line.Empty p) h = refl
@@ -139,8 +139,8 @@ behind_simple scope frame here t (Line.Continue p) h = refl
 pub behind_made_plain : (scope : Scope) (frame : Frame) (here : Here) (t : Bool) (s : NodeWhat) → ((d : Decl) (v : Option Form) → s ≡ Local d v → ⊥) → (p : Place) → simple_behind scope frame here t (line_what s p) ≡ here
 behind_made_plain scope frame here t s other p = behind_plain scope frame here t (line_what s p) (apart s other p)
 
-pub made_simple : (rules : Rules) (scope : Scope) (frame : Frame) (jumps : Jumps) (is_part : Bool) (here : Here) (t : Bool) (n : NodeWhat) → ((ss : List Node) → n ≡ Block ss → ⊥) → ((e : Form) (a : Node) (b : Option Node) → n ≡ If e a b → ⊥) → ((e : Form) (a : Node) → n ≡ While e a → ⊥) → ((i : List Node) (t : Option Form) (s : Option Node) (a : Node) → n ≡ For i t s a → ⊥) → ((a : Node) (e : Form) → n ≡ Do a e → ⊥) → ((e : Form) (cs : List Clause) → n ≡ Switch e cs → ⊥) → (p : Place) → line_made rules scope frame jumps is_part here t (line_what n p) ≡ simple_made rules scope frame jumps here t (line_what n p)
-made_simple rules scope frame jumps is_part here t n no_block no_if no_while no_for no_do no_switch p = simple_line rules scope frame jumps is_part here t (line_what n p) (whole n no_block no_if no_while no_for no_do no_switch p)
+pub made_simple : (setting : Setting) (standing : Standing) (here : Here) (n : NodeWhat) → ((ss : List Node) → n ≡ Block ss → ⊥) → ((e : Form) (a : Node) (b : Option Node) → n ≡ If e a b → ⊥) → ((e : Form) (a : Node) → n ≡ While e a → ⊥) → ((i : List Node) (t : Option Form) (s : Option Node) (a : Node) → n ≡ For i t s a → ⊥) → ((a : Node) (e : Form) → n ≡ Do a e → ⊥) → ((e : Form) (cs : List Clause) → n ≡ Switch e cs → ⊥) → (p : Place) → line_made setting standing here (line_what n p) ≡ simple_made setting standing.jumps here standing.is_taken (line_what n p)
+made_simple setting standing here n no_block no_if no_while no_for no_do no_switch p = simple_line setting standing here (line_what n p) (whole n no_block no_if no_while no_for no_do no_switch p)
 
 pub behind_made_simple : (scope : Scope) (frame : Frame) (here : Here) (t : Bool) (n : NodeWhat) → ((ss : List Node) → n ≡ Block ss → ⊥) → ((e : Form) (a : Node) (b : Option Node) → n ≡ If e a b → ⊥) → ((e : Form) (a : Node) → n ≡ While e a → ⊥) → ((i : List Node) (t : Option Form) (s : Option Node) (a : Node) → n ≡ For i t s a → ⊥) → ((a : Node) (e : Form) → n ≡ Do a e → ⊥) → ((e : Form) (cs : List Clause) → n ≡ Switch e cs → ⊥) → (p : Place) → line_behind scope frame here t (line_what n p) ≡ numbered (simple_behind scope frame here t (line_what n p))
 behind_made_simple scope frame here t n no_block no_if no_while no_for no_do no_switch p = behind_simple scope frame here t (line_what n p) (whole n no_block no_if no_while no_for no_do no_switch p)

@@ -1,5 +1,5 @@
 -- Statements, one behind the other.
-use Rattle.std.proofs.Common.{ℕ, ◌≡◌, ◌<◌, ◌+◌, List, [], ◌∷◌, ◌++◌, drop, length, get_or, refl, ap, append_assoc, Bool, true, false, Option, Result, Ok, Err}
+use Rattle.std.proofs.Common.{ℕ, ◌≡◌, ◌<◌, ◌+◌, List, [], ◌∷◌, ◌++◌, drop, length, get_or, refl, ap, append_assoc, Bool, Result, Ok, Err}
 use Rattle.std.proofs.Math.Path.{sym, ◌∙◌}
 use Rattle.std.proofs.lemmas.List.{at_drop_more}
 use Rattle.mdr_rich.specs.declared.code.Stmt.{Stmt}
@@ -7,12 +7,12 @@ use Rattle.mdr_syntax.specs.declared.tree.Node.{Node}
 use Rattle.mdr_faults.specs.declared.fault.Fault.{Fault}
 use Rattle.mdr_faults.specs.declared.scope.Scope.{Scope}
 use Rattle.mdr_faults.specs.Faults.{Checked, Right, Wrong, both, told, first, followed}
-use Rattle.mdr_operand.specs.Written.{Written, Line, Lines, line_of, lines_of}
+use Rattle.mdr_operand.specs.Written.{line_of, lines_of}
 use Rattle.mdr_body.specs.declared.here.Frame.{Frame}
 use Rattle.mdr_body.specs.declared.here.Here.{Here}
 use Rattle.mdr_body.specs.declared.here.Jumps.{Jumps}
-use Rattle.mdr_body.specs.Locals.{is_taken}
-use Rattle.mdr_body.specs.Statements.{Rules, appended, no_jumps, jumps_before, head_taken, simple_made, simple_behind, heads_made, heads_behind, line_made, line_behind, lines_made, lines_behind}
+use Rattle.mdr_body.specs.declared.here.Standing.{Standing}
+use Rattle.mdr_body.specs.Statements.{Setting, ForTail, appended, no_jumps, in_list, head_taken, simple_made, simple_behind, heads_made, heads_behind, line_made, line_behind, lines_made, lines_behind}
 use Rattle.mdr_faults.proofs.Order.{lesser_assoc}
 
 followed_both : {A : Type 0} (a : Result (List A) Fault) (c cs : Checked (List A)) → followed (followed a (told c)) (told cs) ≡ followed a (told (both c cs appended))
@@ -36,31 +36,41 @@ pub one_state : {X S : Type 0} (F : S → List X → S) (here here1 w : S) (xs :
 one_state F here here1 w xs i x inside is step so_far =
     step ∙ ap (λ y. F here (y ∷ drop (i + 1) xs)) is ∙ sym (at_drop_more (F here) xs i x inside) ∙ so_far
 
-pub one_line : (rules : Rules) (scope : Scope) (frame : Frame) (jumps j : Jumps) (here here1 : Here) (xs : List Node) (i : ℕ) (x : Node) (t : Bool) (m a a1 w : Result (List Stmt) Fault) → i < length xs → x ≡ get_or xs i x → j ≡ jumps_before jumps (lines_of (drop (i + 1) xs)) → t ≡ is_taken (line_of x) (lines_of (drop (i + 1) xs)) → here1 ≡ line_behind scope frame here t (line_of x) → m ≡ told (line_made rules scope frame j false here t (line_of x)) → a1 ≡ followed a m → followed a (told (lines_made rules scope frame jumps here (lines_of (drop i xs)))) ≡ w → followed a1 (told (lines_made rules scope frame jumps here1 (lines_of (drop (i + 1) xs)))) ≡ w
-one_line rules scope frame jumps j here here1 xs i x t m a a1 w inside is jumped taken e made grown so_far =
-    let c : Checked (List Stmt) = line_made rules scope frame j false here t (line_of x) in
-    one_list (λ ys. lines_made rules scope frame jumps here (lines_of ys)) c (lines_made rules scope frame jumps here1 (lines_of (drop (i + 1) xs))) xs i x a a1 w inside is
-    (ap (λ k. both (line_made rules scope frame k false here (is_taken (line_of x) (lines_of (drop (i + 1) xs))) (line_of x)) (lines_made rules scope frame jumps (line_behind scope frame here (is_taken (line_of x) (lines_of (drop (i + 1) xs))) (line_of x)) (lines_of (drop (i + 1) xs))) appended) (sym jumped)
-    ∙ ap (λ b. both (line_made rules scope frame j false here b (line_of x)) (lines_made rules scope frame jumps (line_behind scope frame here b (line_of x)) (lines_of (drop (i + 1) xs))) appended) (sym taken)
-    ∙ ap (λ h. both c (lines_made rules scope frame jumps h (lines_of (drop (i + 1) xs))) appended) (sym e))
+pub one_line : (setting : Setting) (jumps : Jumps) (standing : Standing) (here here1 : Here) (xs : List Node) (i : ℕ) (x : Node) (m a a1 w : Result (List Stmt) Fault)
+    → i < length xs → x ≡ get_or xs i x → standing ≡ in_list jumps (line_of x) (lines_of (drop (i + 1) xs))
+    → here1 ≡ line_behind setting.scope setting.frame here standing.is_taken (line_of x) → m ≡ told (line_made setting standing here (line_of x)) → a1 ≡ followed a m
+    → followed a (told (lines_made setting jumps here (lines_of (drop i xs)))) ≡ w → followed a1 (told (lines_made setting jumps here1 (lines_of (drop (i + 1) xs)))) ≡ w
+one_line setting jumps standing here here1 xs i x m a a1 w inside is stands e made grown so_far =
+    let c : Checked (List Stmt) = line_made setting standing here (line_of x) in
+    one_list (λ ys. lines_made setting jumps here (lines_of ys)) c (lines_made setting jumps here1 (lines_of (drop (i + 1) xs))) xs i x a a1 w inside is
+    (ap (λ (k : Standing). both (line_made setting k here (line_of x)) (lines_made setting jumps (line_behind setting.scope setting.frame here k.is_taken (line_of x)) (lines_of (drop (i + 1) xs))) appended) (sym stands)
+    ∙ ap (λ h. both c (lines_made setting jumps h (lines_of (drop (i + 1) xs))) appended) (sym e))
     (grown ∙ ap (followed a) made) so_far
 
-pub one_behind_line : (scope : Scope) (frame : Frame) (here here1 w : Here) (xs : List Node) (i : ℕ) (x : Node) (t : Bool) → i < length xs → x ≡ get_or xs i x → t ≡ is_taken (line_of x) (lines_of (drop (i + 1) xs)) → here1 ≡ line_behind scope frame here t (line_of x) → lines_behind scope frame here (lines_of (drop i xs)) ≡ w → lines_behind scope frame here1 (lines_of (drop (i + 1) xs)) ≡ w
-one_behind_line scope frame here here1 w xs i x t inside is taken e so_far =
-    one_state (λ h ys. lines_behind scope frame h (lines_of ys)) here here1 w xs i x inside is
-    (ap (λ h. lines_behind scope frame h (lines_of (drop (i + 1) xs))) (e ∙ ap (λ b. line_behind scope frame here b (line_of x)) taken)) so_far
+pub one_behind_line : (setting : Setting) (jumps : Jumps) (standing : Standing) (here here1 w : Here) (xs : List Node) (i : ℕ) (x : Node)
+    → i < length xs → x ≡ get_or xs i x → standing ≡ in_list jumps (line_of x) (lines_of (drop (i + 1) xs))
+    → here1 ≡ line_behind setting.scope setting.frame here standing.is_taken (line_of x)
+    → lines_behind setting.scope setting.frame here (lines_of (drop i xs)) ≡ w → lines_behind setting.scope setting.frame here1 (lines_of (drop (i + 1) xs)) ≡ w
+one_behind_line setting jumps standing here here1 w xs i x inside is stands e so_far =
+    one_state (λ h ys. lines_behind setting.scope setting.frame h (lines_of ys)) here here1 w xs i x inside is
+    (ap (λ h. lines_behind setting.scope setting.frame h (lines_of (drop (i + 1) xs))) (e ∙ ap (λ (k : Standing). line_behind setting.scope setting.frame here k.is_taken (line_of x)) stands)) so_far
 
-pub one_head : (rules : Rules) (scope : Scope) (frame : Frame) (here here1 : Here) (test : Option Written) (step : Lines) (body : Line) (xs : List Node) (i : ℕ) (x : Node) (t : Bool) (m a a1 w : Result (List Stmt) Fault) → i < length xs → x ≡ get_or xs i x → t ≡ head_taken (line_of x) (lines_of (drop (i + 1) xs)) test step body → here1 ≡ simple_behind scope frame here t (line_of x) → m ≡ told (simple_made rules scope frame no_jumps here t (line_of x)) → a1 ≡ followed a m → followed a (told (heads_made rules scope frame here test step body (lines_of (drop i xs)))) ≡ w → followed a1 (told (heads_made rules scope frame here1 test step body (lines_of (drop (i + 1) xs)))) ≡ w
+pub one_head : (setting : Setting) (here here1 : Here) (tail : ForTail) (xs : List Node) (i : ℕ) (x : Node) (t : Bool) (m a a1 w : Result (List Stmt) Fault)
+    → i < length xs → x ≡ get_or xs i x → t ≡ head_taken (line_of x) (lines_of (drop (i + 1) xs)) tail
+    → here1 ≡ simple_behind setting.scope setting.frame here t (line_of x) → m ≡ told (simple_made setting no_jumps here t (line_of x)) → a1 ≡ followed a m
+    → followed a (told (heads_made setting here tail (lines_of (drop i xs)))) ≡ w → followed a1 (told (heads_made setting here1 tail (lines_of (drop (i + 1) xs)))) ≡ w
 unfolding heads_made
-one_head rules scope frame here here1 test step body xs i x t m a a1 w inside is taken e made grown so_far =
-    let c : Checked (List Stmt) = simple_made rules scope frame no_jumps here t (line_of x) in
-    one_list (λ ys. heads_made rules scope frame here test step body (lines_of ys)) c (heads_made rules scope frame here1 test step body (lines_of (drop (i + 1) xs))) xs i x a a1 w inside is
-    (ap (λ b. both (simple_made rules scope frame no_jumps here b (line_of x)) (heads_made rules scope frame (simple_behind scope frame here b (line_of x)) test step body (lines_of (drop (i + 1) xs))) appended) (sym taken)
-    ∙ ap (λ h. both c (heads_made rules scope frame h test step body (lines_of (drop (i + 1) xs))) appended) (sym e))
+one_head setting here here1 tail xs i x t m a a1 w inside is taken e made grown so_far =
+    let c : Checked (List Stmt) = simple_made setting no_jumps here t (line_of x) in
+    one_list (λ ys. heads_made setting here tail (lines_of ys)) c (heads_made setting here1 tail (lines_of (drop (i + 1) xs))) xs i x a a1 w inside is
+    (ap (λ b. both (simple_made setting no_jumps here b (line_of x)) (heads_made setting (simple_behind setting.scope setting.frame here b (line_of x)) tail (lines_of (drop (i + 1) xs))) appended) (sym taken)
+    ∙ ap (λ h. both c (heads_made setting h tail (lines_of (drop (i + 1) xs))) appended) (sym e))
     (grown ∙ ap (followed a) made) so_far
 
-pub one_behind_head : (scope : Scope) (frame : Frame) (here here1 w : Here) (test : Option Written) (step : Lines) (body : Line) (xs : List Node) (i : ℕ) (x : Node) (t : Bool) → i < length xs → x ≡ get_or xs i x → t ≡ head_taken (line_of x) (lines_of (drop (i + 1) xs)) test step body → here1 ≡ simple_behind scope frame here t (line_of x) → heads_behind scope frame here test step body (lines_of (drop i xs)) ≡ w → heads_behind scope frame here1 test step body (lines_of (drop (i + 1) xs)) ≡ w
+pub one_behind_head : (scope : Scope) (frame : Frame) (here here1 w : Here) (tail : ForTail) (xs : List Node) (i : ℕ) (x : Node) (t : Bool)
+    → i < length xs → x ≡ get_or xs i x → t ≡ head_taken (line_of x) (lines_of (drop (i + 1) xs)) tail → here1 ≡ simple_behind scope frame here t (line_of x)
+    → heads_behind scope frame here tail (lines_of (drop i xs)) ≡ w → heads_behind scope frame here1 tail (lines_of (drop (i + 1) xs)) ≡ w
 unfolding heads_behind
-one_behind_head scope frame here here1 w test step body xs i x t inside is taken e so_far =
-    one_state (λ h ys. heads_behind scope frame h test step body (lines_of ys)) here here1 w xs i x inside is
-    (ap (λ h. heads_behind scope frame h test step body (lines_of (drop (i + 1) xs))) (e ∙ ap (λ b. simple_behind scope frame here b (line_of x)) taken)) so_far
+one_behind_head scope frame here here1 w tail xs i x t inside is taken e so_far =
+    one_state (λ h ys. heads_behind scope frame h tail (lines_of ys)) here here1 w xs i x inside is
+    (ap (λ h. heads_behind scope frame h tail (lines_of (drop (i + 1) xs))) (e ∙ ap (λ b. simple_behind scope frame here b (line_of x)) taken)) so_far

@@ -3,3 +3,4 @@ pub mod Closing
 mod Folds
 pub mod Gathering
 mod Switching
+mod Undeclared

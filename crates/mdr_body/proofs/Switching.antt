@@ -25,7 +25,7 @@ use Rattle.mdr_body.specs.declared.labels.CaseLabel.TheVariants as label
 use Rattle.mdr_body.specs.Locals.{entered, left}
 use Rattle.mdr_body.specs.Labels.{cases, label_made, labels_behind, labels_made, with_case, with_label}
 use Rattle.mdr_body.specs.Clauses.{clause_place, ends, is_last, made_clause, sorted, with_clause}
-use Rattle.mdr_body.specs.Statements.{Rules, appended, clauses_behind, clauses_made, inner_jumps, jumps_before, lines_behind, lines_made}
+use Rattle.mdr_body.specs.Statements.{Setting, appended, clauses_behind, clauses_made, inner_jumps, jumps_before, lines_behind, lines_made}
 use Rattle.mdr_body.proofs.Gathering.{one_list, one_state}
 
 -- ---- where a list ends
@@ -70,17 +70,17 @@ unfolding sorted
 sorted_more s [] c = refl
 sorted_more s (d ∷ ds) c = sorted_more (with_clause s d) ds c
 
-pub one_clause : (rules : Rules) (scope : Scope) (frame : Frame) (jumps : Jumps) (here here1 : Here) (at : Tested) (seen seen1 : List CaseLabel) (xs : List Clause) (i : ℕ) (x : Clause) (b : Bool) (m a a1 w : Result (List MadeClause) Fault)
+pub one_clause : (setting : Setting) (jumps : Jumps) (here here1 : Here) (at : Tested) (seen seen1 : List CaseLabel) (xs : List Clause) (i : ℕ) (x : Clause) (b : Bool) (m a a1 w : Result (List MadeClause) Fault)
     → i < length xs → x ≡ get_or xs i x → b ≡ is_last (clauses_of (drop (i + 1) xs))
-    → here1 ≡ left here (lines_behind scope frame (entered here) (clause_of x).1)
-    → seen1 ≡ labels_behind scope here.names at.kind seen (clause_of x).0
-    → m ≡ told (both (labels_made scope here.names at.kind seen (clause_of x).0) (demand (clause_place at.place (clause_of x).0) Mismatch (ends (clause_of x).1 b) (lines_made rules scope frame jumps (entered here) (clause_of x).1)) (made_clause at.kind))
-    → a1 ≡ followed a m → followed a (told (clauses_made rules scope frame jumps here at seen (clauses_of (drop i xs)))) ≡ w → followed a1 (told (clauses_made rules scope frame jumps here1 at seen1 (clauses_of (drop (i + 1) xs)))) ≡ w
-one_clause rules scope frame jumps here here1 at seen seen1 xs i x b m a a1 w inside is last e s made grown so_far =
-    let one : Bool → Checked (List MadeClause) = λ t. both (labels_made scope here.names at.kind seen (clause_of x).0) (demand (clause_place at.place (clause_of x).0) Mismatch (ends (clause_of x).1 t) (lines_made rules scope frame jumps (entered here) (clause_of x).1)) (made_clause at.kind) in
-    one_list (λ ys. clauses_made rules scope frame jumps here at seen (clauses_of ys)) (one b) (clauses_made rules scope frame jumps here1 at seen1 (clauses_of (drop (i + 1) xs))) xs i x a a1 w inside is
-    (ap (λ t. both (one t) (clauses_made rules scope frame jumps (left here (lines_behind scope frame (entered here) (clause_of x).1)) at (labels_behind scope here.names at.kind seen (clause_of x).0) (clauses_of (drop (i + 1) xs))) appended) (sym last)
-    ∙ λ j. both (one b) (clauses_made rules scope frame jumps (sym e j) at (sym s j) (clauses_of (drop (i + 1) xs))) appended)
+    → here1 ≡ left here (lines_behind setting.scope setting.frame (entered here) (clause_of x).1)
+    → seen1 ≡ labels_behind setting.scope here.names at.kind seen (clause_of x).0
+    → m ≡ told (both (labels_made setting.scope here.names at.kind seen (clause_of x).0) (demand (clause_place at.place (clause_of x).0) Mismatch (ends (clause_of x).1 b) (lines_made setting jumps (entered here) (clause_of x).1)) (made_clause at.kind))
+    → a1 ≡ followed a m → followed a (told (clauses_made setting jumps here at seen (clauses_of (drop i xs)))) ≡ w → followed a1 (told (clauses_made setting jumps here1 at seen1 (clauses_of (drop (i + 1) xs)))) ≡ w
+one_clause setting jumps here here1 at seen seen1 xs i x b m a a1 w inside is last e s made grown so_far =
+    let one : Bool → Checked (List MadeClause) = λ t. both (labels_made setting.scope here.names at.kind seen (clause_of x).0) (demand (clause_place at.place (clause_of x).0) Mismatch (ends (clause_of x).1 t) (lines_made setting jumps (entered here) (clause_of x).1)) (made_clause at.kind) in
+    one_list (λ ys. clauses_made setting jumps here at seen (clauses_of ys)) (one b) (clauses_made setting jumps here1 at seen1 (clauses_of (drop (i + 1) xs))) xs i x a a1 w inside is
+    (ap (λ t. both (one t) (clauses_made setting jumps (left here (lines_behind setting.scope setting.frame (entered here) (clause_of x).1)) at (labels_behind setting.scope here.names at.kind seen (clause_of x).0) (clauses_of (drop (i + 1) xs))) appended) (sym last)
+    ∙ λ j. both (one b) (clauses_made setting jumps (sym e j) at (sym s j) (clauses_of (drop (i + 1) xs))) appended)
     (grown ∙ ap (followed a) made) so_far
 
 pub one_behind_clause : (scope : Scope) (frame : Frame) (here here1 w : Here) (xs : List Clause) (i : ℕ) (x : Clause) → i < length xs → x ≡ get_or xs i x → here1 ≡ left here (lines_behind scope frame (entered here) (clause_of x).1) → clauses_behind scope frame here (clauses_of (drop i xs)) ≡ w → clauses_behind scope frame here1 (clauses_of (drop (i + 1) xs)) ≡ w

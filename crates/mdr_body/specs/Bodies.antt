@@ -14,7 +14,7 @@ use Rattle.mdr_body.specs.declared.here.DeclaredLocal.{DeclaredLocal}
 use Rattle.mdr_body.specs.declared.here.Frame.{Frame}
 use Rattle.mdr_body.specs.declared.here.Here.{Here}
 use Rattle.mdr_body.specs.Locals.{struct_locks, parameter_taken, first_here}
-use Rattle.mdr_body.specs.Statements.{Rules, no_jumps, lines_made, lines_behind}
+use Rattle.mdr_body.specs.Statements.{Rules, Setting, setting_of, no_jumps, lines_made, lines_behind}
 
 abbrev pub local_again : DeclaredLocal → Checked Local
 local_again d = again d.means
@@ -28,12 +28,14 @@ frame_of scope h = record { locks = struct_locks scope; result = told (head_resu
 abbrev pub body_of : List Bool → List Local → List Stmt → Checked Body
 body_of objects locals ss = Right (record { objects = objects; locals = locals; statements = ss })
 
-abbrev pub body_by : Rules → Scope → Frame → Here → (objects : List Bool) → Lines → Checked Body
-body_by rules scope frame here objects ls =
-    both (declared_locals (lines_behind scope frame here ls).locals)
-    (lines_made rules scope frame no_jumps here ls)
+abbrev pub body_by : Setting → Here → (objects : List Bool) → Lines → Checked Body
+body_by setting here objects ls =
+    both (declared_locals (lines_behind setting.scope setting.frame here ls).locals)
+    (lines_made setting no_jumps here ls)
     (body_of objects)
 
 -- the outermost block. The scope is that behind the function's name
 unfoldable pub body_rule : Rules → Scope → Head → List Node → Checked Body
-body_rule rules scope h nodes = body_by rules scope (frame_of scope h) (first_here scope (lines_of nodes) h.params) (map (parameter_taken (lines_of nodes)) h.params) (lines_of nodes)
+body_rule rules scope h nodes =
+    body_by (setting_of rules scope (frame_of scope h)) (first_here scope (lines_of nodes) h.params)
+    (map (parameter_taken (lines_of nodes)) h.params) (lines_of nodes)

@@ -33,6 +33,8 @@ use Rattle.mdr_body.specs.declared.here.Breaks.TheVariants as break_of
 use Rattle.mdr_body.specs.declared.here.Frame.{Frame}
 use Rattle.mdr_body.specs.declared.here.Here.{Here}
 use Rattle.mdr_body.specs.declared.here.Jumps.{Jumps}
+use Rattle.mdr_body.specs.declared.here.Standing.{Standing}
+use Rattle.mdr_body.specs.declared.here.Target.{Target}
 use Rattle.mdr_body.specs.declared.here.Tested.{Tested}
 use Rattle.mdr_body.specs.declared.labels.CaseLabel.{CaseLabel}
 use Rattle.mdr_body.specs.Locals.{local_object, is_own_object, with_local, is_taken, entered, left, numbered}
@@ -54,6 +56,15 @@ pub record Rules : Type 0 where
   pub stored : Scope → List LocalName → Place → Lval → Ty → Written → Checked Step
   -- the same, given to the caller (6.8.6.4, paragraph 3)
   pub returned : Scope → List LocalName → Place → Ty → Written → Checked Step
+
+-- what is the same wherever one stands in a body: the rules, the names of the file, and what the whole body shares
+pub record Setting : Type 0 where
+  pub rules : Rules
+  pub scope : Scope
+  pub frame : Frame
+
+abbrev pub setting_of : Rules → Scope → Frame → Setting
+setting_of rules scope frame = record { rules = rules; scope = scope; frame = frame }
 
 abbrev pub stmt : ℕ → Step → Stmt
 stmt n s = record { number = n; step = s }
@@ -98,23 +109,28 @@ abbrev pub own_place : (is_object : Bool) → (slot : ℕ) → Ty → Lval
 own_place true slot t = lval.Object slot t
 own_place false slot t = lval.Slot slot t
 
-abbrev pub initial_by : Rules → Scope → List LocalName → Place → (slot : ℕ) → (is_taken : Bool) → Written → Option (List ℕ) → Object → Checked Step
-initial_by rules scope names p slot t w (Some bytes) o = chosen (takes_text o (length bytes)) (Right (step.Text slot bytes)) (refuse p Mismatch)
-initial_by rules scope names p slot t w None o = chosen (is_single o) (rules.stored scope names p (own_place (is_own_object t o) slot o.ty) o.ty w) (refuse p Mismatch)
+abbrev pub target_of : Place → (slot : ℕ) → (is_taken : Bool) → Target
+target_of p slot t = record { place = p; slot = slot; is_taken = t }
+
+-- by how a value is stored: a text, or a value
+abbrev pub initial_by : (stored : Place → Lval → Ty → Written → Checked Step) → Target → Written → Option (List ℕ) → Object → Checked Step
+initial_by stored at w (Some bytes) o = chosen (takes_text o (length bytes)) (Right (step.Text at.slot bytes)) (refuse at.place Mismatch)
+initial_by stored at w None o = chosen (is_single o) (stored at.place (own_place (is_own_object at.is_taken o) at.slot o.ty) o.ty w) (refuse at.place Mismatch)
 
 -- the initialiser is in the scope of what it is for
-unfoldable pub initial_step : Rules → Scope → Frame → Here → (is_taken : Bool) → Decl → Written → Checked Step
-initial_step rules scope frame here t d w =
-    after (local_object scope frame.locks d)
-    (initial_by rules scope (with_local scope frame.locks t d here).names (out-Decl d).place here.slot t w (text_of w))
+unfoldable pub initial_step : Setting → Here → (is_taken : Bool) → Decl → Written → Checked Step
+initial_step setting here t d w =
+    after (local_object setting.scope setting.frame.locks d)
+    (initial_by (setting.rules.stored setting.scope (with_local setting.scope setting.frame.locks t d here).names)
+    (target_of (out-Decl d).place here.slot t) w (text_of w))
 
 abbrev pub declared_then : (number slot : ℕ) → Step → Checked (List Stmt)
 declared_then n slot s = Right (stmt n (step.Declare slot) ∷ stmt n s ∷ [])
 
 -- the declarator, and its initialiser, which have one number
-unfoldable pub local_made : Rules → Scope → Frame → Here → (is_taken : Bool) → Decl → Option Written → Checked (List Stmt)
-local_made rules scope frame here t d None = single here.number (step.Declare here.slot)
-local_made rules scope frame here t d (Some w) = after (initial_step rules scope frame here t d w) (declared_then here.number here.slot)
+unfoldable pub local_made : Setting → Here → (is_taken : Bool) → Decl → Option Written → Checked (List Stmt)
+local_made setting here t d None = single here.number (step.Declare here.slot)
+local_made setting here t d (Some w) = after (initial_step setting here t d w) (declared_then here.number here.slot)
 
 -- ---- jumps (6.8.6)
 
@@ -162,33 +178,34 @@ broken n p jumps = broken_by n p jumps.in_loop jumps.breaks
 abbrev pub bare_return : Place → Ty → Checked Step
 bare_return p t = chosen (is_void t) (Right (step.Return None)) (refuse p Mismatch)
 
-abbrev pub value_return : Rules → Scope → Here → Place → Written → Ty → Checked Step
-value_return rules scope here p w t = chosen (is_void t) (refuse p Mismatch) (rules.returned scope here.names p t w)
+-- with one, by how a value is given to the caller
+abbrev pub value_return : (returned : Place → Ty → Written → Checked Step) → Place → Written → Ty → Checked Step
+value_return returned p w t = chosen (is_void t) (refuse p Mismatch) (returned p t w)
 
-abbrev pub return_by : Rules → Scope → Here → Place → Option Written → Ty → Checked Step
-return_by rules scope here p None t = bare_return p t
-return_by rules scope here p (Some w) t = value_return rules scope here p w t
+abbrev pub return_by : (returned : Place → Ty → Written → Checked Step) → Place → Option Written → Ty → Checked Step
+return_by returned p None t = bare_return p t
+return_by returned p (Some w) t = value_return returned p w t
 
-unfoldable pub return_step : Rules → Scope → Frame → Here → Place → Option Written → Checked Step
-return_step rules scope frame here p e = after (again frame.result) (return_by rules scope here p e)
+unfoldable pub return_step : Setting → Here → Place → Option Written → Checked Step
+return_step setting here p e = after (again setting.frame.result) (return_by (setting.rules.returned setting.scope here.names) p e)
 
 -- ---- statements without parts
 
 -- of all others none stands where these do
-abbrev pub simple_made : Rules → Scope → Frame → Jumps → Here → (is_taken : Bool) → Line → Checked (List Stmt)
-simple_made rules scope frame jumps here t (Line.Empty p) = single here.number step.Empty
-simple_made rules scope frame jumps here t (Line.Block p ls) = refuse p Mismatch
-simple_made rules scope frame jumps here t (Line.Local p d init) = local_made rules scope frame here t d init
-simple_made rules scope frame jumps here t (Line.Assign p at op a b) = stated here.number (rules.assigned scope here.names at op a b)
-simple_made rules scope frame jumps here t (Line.Plain p w) = stated here.number (rules.called scope here.names w)
-simple_made rules scope frame jumps here t (Line.If p e one other) = refuse p Mismatch
-simple_made rules scope frame jumps here t (Line.While p e body) = refuse p Mismatch
-simple_made rules scope frame jumps here t (Line.For p init test step body) = refuse p Mismatch
-simple_made rules scope frame jumps here t (Line.Do p body e) = refuse p Mismatch
-simple_made rules scope frame jumps here t (Line.Switch p e cs) = refuse p Mismatch
-simple_made rules scope frame jumps here t (Line.Return p e) = stated here.number (return_step rules scope frame here p e)
-simple_made rules scope frame jumps here t (Line.Break p) = broken here.number p jumps
-simple_made rules scope frame jumps here t (Line.Continue p) = stated here.number (jumped p jumps.in_loop step.Continue)
+abbrev pub simple_made : Setting → Jumps → Here → (is_taken : Bool) → Line → Checked (List Stmt)
+simple_made setting jumps here t (Line.Empty p) = single here.number step.Empty
+simple_made setting jumps here t (Line.Block p ls) = refuse p Mismatch
+simple_made setting jumps here t (Line.Local p d init) = local_made setting here t d init
+simple_made setting jumps here t (Line.Assign p at op a b) = stated here.number (setting.rules.assigned setting.scope here.names at op a b)
+simple_made setting jumps here t (Line.Plain p w) = stated here.number (setting.rules.called setting.scope here.names w)
+simple_made setting jumps here t (Line.If p e one other) = refuse p Mismatch
+simple_made setting jumps here t (Line.While p e body) = refuse p Mismatch
+simple_made setting jumps here t (Line.For p init test step body) = refuse p Mismatch
+simple_made setting jumps here t (Line.Do p body e) = refuse p Mismatch
+simple_made setting jumps here t (Line.Switch p e cs) = refuse p Mismatch
+simple_made setting jumps here t (Line.Return p e) = stated here.number (return_step setting here p e)
+simple_made setting jumps here t (Line.Break p) = broken here.number p jumps
+simple_made setting jumps here t (Line.Continue p) = stated here.number (jumped p jumps.in_loop step.Continue)
 
 -- behind one, but for its number
 abbrev pub simple_behind : Scope → Frame → Here → (is_taken : Bool) → Line → Here
@@ -203,29 +220,39 @@ appended xs ys = Right (xs ++ ys)
 abbrev pub pair : {A B : Type 0} → A → B → Checked (A × B)
 pair x y = Right (x, y)
 
+-- what stands behind its init
+pub record ForTail : Type 0 where
+  pub test : Option Written
+  pub step : Lines
+  pub body : Line
+
+abbrev pub tail_of : (test : Option Written) → (step : Lines) → (body : Line) → ForTail
+tail_of test step body = record { test = test; step = step; body = body }
+
 -- whether the address of what the head declares is taken in the head or in the body
-abbrev pub taken_behind : Option (List ℕ) → Option Written → (rest : Lines) → (test : Option Written) → (step : Lines) → (body : Line) → Bool
-taken_behind None init rest test step body = false
-taken_behind (Some name) init rest test step body = perhaps_takes name init || takes_along name rest (perhaps_takes name test || (takes_along name step false || takes_at name body))
+abbrev pub taken_behind : Option (List ℕ) → Option Written → (rest : Lines) → ForTail → Bool
+taken_behind None init rest tail = false
+taken_behind (Some name) init rest tail =
+    perhaps_takes name init || takes_along name rest (perhaps_takes name tail.test || (takes_along name tail.step false || takes_at name tail.body))
 
-abbrev pub head_taken : Line → (rest : Lines) → (test : Option Written) → (step : Lines) → (body : Line) → Bool
-head_taken (Line.Local p d init) rest test step body = taken_behind (out-Decl d).name init rest test step body
-head_taken l rest test step body = false
+abbrev pub head_taken : Line → (rest : Lines) → ForTail → Bool
+head_taken (Line.Local p d init) rest tail = taken_behind (out-Decl d).name init rest tail
+head_taken l rest tail = false
 
-unfoldable pub heads_made : Rules → Scope → Frame → Here → (test : Option Written) → (step : Lines) → (body : Line) → Lines → Checked (List Stmt)
-heads_made rules scope frame here test step body Lines.End = Right []
-heads_made rules scope frame here test step body (Lines.Then l ls) =
-    both (simple_made rules scope frame no_jumps here (head_taken l ls test step body) l)
-    (heads_made rules scope frame (simple_behind scope frame here (head_taken l ls test step body) l) test step body ls) appended
+unfoldable pub heads_made : Setting → Here → ForTail → Lines → Checked (List Stmt)
+heads_made setting here tail Lines.End = Right []
+heads_made setting here tail (Lines.Then l ls) =
+    both (simple_made setting no_jumps here (head_taken l ls tail) l)
+    (heads_made setting (simple_behind setting.scope setting.frame here (head_taken l ls tail) l) tail ls) appended
 
-unfoldable pub heads_behind : Scope → Frame → Here → (test : Option Written) → (step : Lines) → (body : Line) → Lines → Here
-heads_behind scope frame here test step body Lines.End = here
-heads_behind scope frame here test step body (Lines.Then l ls) = heads_behind scope frame (simple_behind scope frame here (head_taken l ls test step body) l) test step body ls
+unfoldable pub heads_behind : Scope → Frame → Here → ForTail → Lines → Here
+heads_behind scope frame here tail Lines.End = here
+heads_behind scope frame here tail (Lines.Then l ls) = heads_behind scope frame (simple_behind scope frame here (head_taken l ls tail) l) tail ls
 
 -- the last part: nothing, or a statement
-abbrev pub steps_made : Rules → Scope → Frame → Here → Lines → Checked (List Stmt)
-steps_made rules scope frame here Lines.End = Right []
-steps_made rules scope frame here (Lines.Then l ls) = simple_made rules scope frame no_jumps here false l
+abbrev pub steps_made : Setting → Here → Lines → Checked (List Stmt)
+steps_made setting here Lines.End = Right []
+steps_made setting here (Lines.Then l ls) = simple_made setting no_jumps here false l
 
 abbrev pub steps_behind : Scope → Frame → Here → Lines → Here
 steps_behind scope frame here Lines.End = here
@@ -235,13 +262,15 @@ steps_behind scope frame here (Lines.Then l ls) = simple_behind scope frame here
 abbrev pub ForHead : Type 0
 ForHead = (List Stmt × Option Expr) × List Stmt
 
-unfoldable pub for_head : Rules → Scope → Frame → Here → Place → (init : Lines) → (test : Option Written) → (step : Lines) → (body : Line) → Checked ForHead
-for_head rules scope frame here p init test step body =
-    both (both (heads_made rules scope frame here test step body init) (perhaps_condition rules scope (heads_behind scope frame here test step body init) p test) pair)
-    (steps_made rules scope frame (heads_behind scope frame here test step body init) step) pair
+unfoldable pub for_head : Setting → Here → Place → (init : Lines) → ForTail → Checked ForHead
+for_head setting here p init tail =
+    both
+    (both (heads_made setting here tail init)
+    (perhaps_condition setting.rules setting.scope (heads_behind setting.scope setting.frame here tail init) p tail.test) pair)
+    (steps_made setting (heads_behind setting.scope setting.frame here tail init) tail.step) pair
 
-unfoldable pub behind_head : Scope → Frame → Here → (init : Lines) → (test : Option Written) → (step : Lines) → (body : Line) → Here
-behind_head scope frame here init test step body = numbered (steps_behind scope frame (heads_behind scope frame here test step body init) step)
+unfoldable pub behind_head : Scope → Frame → Here → (init : Lines) → ForTail → Here
+behind_head scope frame here init tail = numbered (steps_behind scope frame (heads_behind scope frame here tail init) tail.step)
 
 -- ---- statements with parts
 
@@ -278,6 +307,17 @@ tested_value rules scope here p w = after (rules.typed scope here.names w) (swit
 abbrev pub tested_at : Place → Checked Integer → Tested
 tested_at p c = record { place = p; kind = label_kind c }
 
+abbrev pub standing_of : Jumps → (is_part is_taken : Bool) → Standing
+standing_of jumps is_part t = record { jumps = jumps; is_part = is_part; is_taken = t }
+
+-- as a part of another statement; it is no declaration (6.8, paragraph 1)
+abbrev pub in_part : Jumps → Standing
+in_part jumps = standing_of jumps true false
+
+-- in a list, with others behind it
+abbrev pub in_list : Jumps → Line → (rest : Lines) → Standing
+in_list jumps l ls = standing_of (jumps_before jumps ls) false (is_taken l ls)
+
 -- what is known behind a statement, whatever is wrong in it: its locals are declared, and its numbers and slots are counted
 abbrev mutual
   pub line_behind : Scope → Frame → Here → (is_taken : Bool) → Line → Here
@@ -288,7 +328,7 @@ abbrev mutual
   line_behind scope frame here t (Line.Plain p w) = numbered here
   line_behind scope frame here t (Line.If p e one other) = perhaps_behind scope frame (line_behind scope frame (numbered here) false one) other
   line_behind scope frame here t (Line.While p e body) = line_behind scope frame (numbered here) false body
-  line_behind scope frame here t (Line.For p init test step body) = left here (line_behind scope frame (behind_head scope frame (entered here) init test step body) false body)
+  line_behind scope frame here t (Line.For p init test step body) = left here (line_behind scope frame (behind_head scope frame (entered here) init (tail_of test step body)) false body)
   line_behind scope frame here t (Line.Do p body e) = line_behind scope frame (numbered here) false body
   line_behind scope frame here t (Line.Switch p e cs) = clauses_behind scope frame (numbered here) cs
   line_behind scope frame here t (Line.Return p e) = numbered here
@@ -310,45 +350,48 @@ abbrev mutual
 
 -- each part of an `if` and of a loop is a block (6.8.4, paragraph 3; 6.8.5, paragraph 5)
 abbrev mutual
-  pub line_made : Rules → Scope → Frame → Jumps → (is_part : Bool) → Here → (is_taken : Bool) → Line → Checked (List Stmt)
-  line_made rules scope frame jumps is_part here t (Line.Empty p) = simple_made rules scope frame jumps here t (Line.Empty p)
-  line_made rules scope frame jumps is_part here t (Line.Block p ls) = as_part is_part (lines_made rules scope frame (inner_jumps jumps) (entered here) ls)
-  line_made rules scope frame jumps is_part here t (Line.Local p d init) = simple_made rules scope frame jumps here t (Line.Local p d init)
-  line_made rules scope frame jumps is_part here t (Line.Assign p at op a b) = simple_made rules scope frame jumps here t (Line.Assign p at op a b)
-  line_made rules scope frame jumps is_part here t (Line.Plain p w) = simple_made rules scope frame jumps here t (Line.Plain p w)
-  line_made rules scope frame jumps is_part here t (Line.If p e one other) =
-      both (both (condition rules scope here p e) (line_made rules scope frame (inner_jumps jumps) true (numbered here) false one) pair)
-      (perhaps_made rules scope frame (inner_jumps jumps) (line_behind scope frame (numbered here) false one) other) (if_of here.number)
-  line_made rules scope frame jumps is_part here t (Line.While p e body) =
-      both (condition rules scope here p e) (line_made rules scope frame loop_jumps true (numbered here) false body) (while_of here.number)
-  line_made rules scope frame jumps is_part here t (Line.For p init test step body) =
-      both (for_head rules scope frame (entered here) p init test step body)
-      (line_made rules scope frame loop_jumps true (behind_head scope frame (entered here) init test step body) false body) (for_of here.number)
-  line_made rules scope frame jumps is_part here t (Line.Do p body e) =
-      both (line_made rules scope frame loop_jumps true (numbered here) false body)
-      (condition rules scope (line_behind scope frame (numbered here) false body) p e) (do_of here.number)
-  line_made rules scope frame jumps is_part here t (Line.Switch p e cs) =
-      both (tested_value rules scope here p e)
-      (clauses_made rules scope frame (clause_jumps jumps) (numbered here) (tested_at p (tested_value rules scope here p e)) [] cs) (switch_of here.number)
-  line_made rules scope frame jumps is_part here t (Line.Return p e) = simple_made rules scope frame jumps here t (Line.Return p e)
-  line_made rules scope frame jumps is_part here t (Line.Break p) = simple_made rules scope frame jumps here t (Line.Break p)
-  line_made rules scope frame jumps is_part here t (Line.Continue p) = simple_made rules scope frame jumps here t (Line.Continue p)
+  pub line_made : Setting → Standing → Here → Line → Checked (List Stmt)
+  line_made setting standing here (Line.Empty p) = simple_made setting standing.jumps here standing.is_taken (Line.Empty p)
+  line_made setting standing here (Line.Block p ls) = as_part standing.is_part (lines_made setting (inner_jumps standing.jumps) (entered here) ls)
+  line_made setting standing here (Line.Local p d init) = simple_made setting standing.jumps here standing.is_taken (Line.Local p d init)
+  line_made setting standing here (Line.Assign p at op a b) = simple_made setting standing.jumps here standing.is_taken (Line.Assign p at op a b)
+  line_made setting standing here (Line.Plain p w) = simple_made setting standing.jumps here standing.is_taken (Line.Plain p w)
+  line_made setting standing here (Line.If p e one other) =
+      both (both (condition setting.rules setting.scope here p e) (line_made setting (in_part (inner_jumps standing.jumps)) (numbered here) one) pair)
+      (perhaps_made setting (inner_jumps standing.jumps) (line_behind setting.scope setting.frame (numbered here) false one) other) (if_of here.number)
+  line_made setting standing here (Line.While p e body) =
+      both (condition setting.rules setting.scope here p e) (line_made setting (in_part loop_jumps) (numbered here) body) (while_of here.number)
+  line_made setting standing here (Line.For p init test step body) =
+      both (for_head setting (entered here) p init (tail_of test step body))
+      (line_made setting (in_part loop_jumps) (behind_head setting.scope setting.frame (entered here) init (tail_of test step body)) body) (for_of here.number)
+  line_made setting standing here (Line.Do p body e) =
+      both (line_made setting (in_part loop_jumps) (numbered here) body)
+      (condition setting.rules setting.scope (line_behind setting.scope setting.frame (numbered here) false body) p e) (do_of here.number)
+  line_made setting standing here (Line.Switch p e cs) =
+      both (tested_value setting.rules setting.scope here p e)
+      (clauses_made setting (clause_jumps standing.jumps) (numbered here) (tested_at p (tested_value setting.rules setting.scope here p e)) [] cs)
+      (switch_of here.number)
+  line_made setting standing here (Line.Return p e) = simple_made setting standing.jumps here standing.is_taken (Line.Return p e)
+  line_made setting standing here (Line.Break p) = simple_made setting standing.jumps here standing.is_taken (Line.Break p)
+  line_made setting standing here (Line.Continue p) = simple_made setting standing.jumps here standing.is_taken (Line.Continue p)
 
-  pub perhaps_made : Rules → Scope → Frame → Jumps → Here → Lines → Checked (List Stmt)
-  perhaps_made rules scope frame jumps here Lines.End = Right []
-  perhaps_made rules scope frame jumps here (Lines.Then l ls) = line_made rules scope frame jumps true here false l
+  pub perhaps_made : Setting → Jumps → Here → Lines → Checked (List Stmt)
+  perhaps_made setting jumps here Lines.End = Right []
+  perhaps_made setting jumps here (Lines.Then l ls) = line_made setting (in_part jumps) here l
 
-  pub lines_made : Rules → Scope → Frame → Jumps → Here → Lines → Checked (List Stmt)
-  lines_made rules scope frame jumps here Lines.End = Right []
-  lines_made rules scope frame jumps here (Lines.Then l ls) =
-      both (line_made rules scope frame (jumps_before jumps ls) false here (is_taken l ls) l)
-      (lines_made rules scope frame jumps (line_behind scope frame here (is_taken l ls) l) ls) appended
+  pub lines_made : Setting → Jumps → Here → Lines → Checked (List Stmt)
+  lines_made setting jumps here Lines.End = Right []
+  lines_made setting jumps here (Lines.Then l ls) =
+      both (line_made setting (in_list jumps l ls) here l)
+      (lines_made setting jumps (line_behind setting.scope setting.frame here (is_taken l ls) l) ls) appended
 
   -- the clauses of a `switch`, behind the labels that were seen in it
-  pub clauses_made : Rules → Scope → Frame → Jumps → Here → Tested → (seen : List CaseLabel) → Clauses → Checked (List MadeClause)
-  clauses_made rules scope frame jumps here at seen Clauses.NoPart = Right []
-  clauses_made rules scope frame jumps here at seen (Clauses.Part labels ls cs) =
+  pub clauses_made : Setting → Jumps → Here → Tested → (seen : List CaseLabel) → Clauses → Checked (List MadeClause)
+  clauses_made setting jumps here at seen Clauses.NoPart = Right []
+  clauses_made setting jumps here at seen (Clauses.Part labels ls cs) =
       both
-      (both (labels_made scope here.names at.kind seen labels)
-      (demand (clause_place at.place labels) Mismatch (ends ls (is_last cs)) (lines_made rules scope frame jumps (entered here) ls)) (made_clause at.kind))
-      (clauses_made rules scope frame jumps (left here (lines_behind scope frame (entered here) ls)) at (labels_behind scope here.names at.kind seen labels) cs) appended
+      (both (labels_made setting.scope here.names at.kind seen labels)
+      (demand (clause_place at.place labels) Mismatch (ends ls (is_last cs)) (lines_made setting jumps (entered here) ls)) (made_clause at.kind))
+      (clauses_made setting jumps (left here (lines_behind setting.scope setting.frame (entered here) ls)) at
+      (labels_behind setting.scope here.names at.kind seen labels) cs)
+      appended

@@ -117,18 +117,7 @@ fn hides_at(place: Place, what: &NodeWhat, name: &[u8]) -> bool
 {
     match what {
         NodeWhat::Local(d, _) => is_declared_by(d, name),
-        NodeWhat::Empty => false,
-        NodeWhat::Block(_) => false,
-        NodeWhat::Assign(_, _, _, _) => false,
-        NodeWhat::Plain(_) => false,
-        NodeWhat::If(_, _, _) => false,
-        NodeWhat::While(_, _) => false,
-        NodeWhat::For(_, _, _, _) => false,
-        NodeWhat::Do(_, _) => false,
-        NodeWhat::Switch(_, _) => false,
-        NodeWhat::Return(_) => false,
-        NodeWhat::Break => false,
-        NodeWhat::Continue => false,
+        _ => false,
     }
 }
 

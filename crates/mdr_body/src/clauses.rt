@@ -15,17 +15,17 @@ ghost use Rattle.mdr_body.specs.Labels.{cases, has_default};
 ghost use Rattle.mdr_body.specs.Clauses.{switch_value, label_kind, clause_place, leaves, last_leaves, ends, made_clause, tried_clause, with_clause, sorted, no_clauses};
 ghost use Rattle.mdr_body.specs.Statements.{stmt, switch_by, switch_of, tested_value};
 
-use crate::here::Here;
+use crate::here::{Here, Known, Placed, Setting};
 use crate::labels::{CaseLabel, cases, has_default};
 use crate::release::replaced;
 use crate::simple::single;
 use crate::typing::Typing;
 use mdr_arith::promote;
 use mdr_core::{Items, Kind, OutOfMemory, Place, Value};
-use mdr_faults::{Fault, Scope, both};
+use mdr_faults::{Fault, both};
 use mdr_operand::{Integer, Operand, at_kind, integer_at, out_of_memory};
 use mdr_rich::{Clause, Step, Stmt};
-use mdr_syntax::{Form, Label, Node, NodeWhat};
+use mdr_syntax::{Label, Node, NodeWhat};
 use std::alloc::{AllocError, Global};
 
 /// A clause: whether `default` is among its labels, the numbers of the others, and its statements.
@@ -69,20 +69,22 @@ fn switch_value(
     }
 }
 
-/// The value that the `switch` at this place tests.
+/// The value that a `switch` tests.
 #[tactic(auto, unfolding(crate::specs::Statements::tested_value))]
 pub fn tested_value<R: Typing>(
     alloc: Global,
-    rules: &R,
-    scope: &Scope,
+    setting: &Setting<R>,
     here: &Here,
-    place: Place,
-    form: &Form,
+    test: Placed,
 ) -> Result<Result<Integer, Fault>, OutOfMemory>
-    ensures { IfOk result (λ r. r ≡ told (tested_value (R.rules rules.now) scope.now here.now place (written_of form.now))) }
+    ensures { IfOk result (λ r. r ≡ told (tested_value (R.rules setting.now.rules.now) setting.now.scope.now here.now test.entry.place (written_of test.entry.form.now))) }
 {
-    match rules.typed(alloc, scope, here.names.as_slice(), form)? {
-        Ok(x) => Ok(switch_value(alloc, place, x)?),
+    let known = Known {
+        scope: setting.scope,
+        locals: here.names.as_slice(),
+    };
+    match setting.rules.typed(alloc, known, test.form)? {
+        Ok(x) => Ok(switch_value(alloc, test.place, x)?),
         Err(fault) => Ok(Err(fault)),
     }
 }

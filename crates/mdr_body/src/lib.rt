@@ -15,7 +15,10 @@ mod whole;
 
 pub use address::{perhaps_takes, takes_along, takes_at, takes_in};
 pub use clauses::{MadeClause, SortedClauses, made_clause, switch_of, tested_value};
-pub use here::{Breaks, DeclaredLocal, Frame, Here, Jumps, Tested};
+pub use here::{
+    Assignment, Breaks, ClauseStanding, DeclaredLocal, ForParts, Frame, Here, Jumps, Known, Placed,
+    Setting, Standing, Target, Tested,
+};
 pub use labels::{CaseLabel, cases, has_default, labels_made};
 pub use locals::{count, declare_local, first_here, leave, parameter_objects, struct_locks, takes};
 pub use simple::{

@@ -15,13 +15,13 @@ ghost use Rattle.mdr_body.specs.Statements.{stmt, stated, tested, condition, som
 ghost use Rattle.mdr_body.specs.Statements.{takes_text, is_single, own_place, initial_by, declared_then};
 ghost use Rattle.mdr_body.specs.Statements.{local_made, jumped, bare_return, value_return, return_by, return_step};
 ghost use Rattle.mdr_body.specs.Statements.{broken, simple_made, simple_behind};
-ghost use Rattle.mdr_body.specs.Pieces.{initial_among, initialised};
+ghost use Rattle.mdr_body.specs.Pieces.{given_setting, assigned_by, initial_among, initialised};
 
-use crate::here::{Breaks, Frame, Here, Jumps};
+use crate::here::{Assignment, Breaks, Here, Jumps, Known, Placed, Setting, Standing, Target};
 use crate::locals::{declare_local, is_own_object, local_object};
 use crate::typing::Typing;
 use mdr_core::{Items, Name, OutOfMemory, Place, Ty};
-use mdr_faults::{Fault, Object, Scope, copied, copied_type, is_scalar, is_void, mismatch};
+use mdr_faults::{Fault, Object, copied, copied_type, is_scalar, is_void, mismatch};
 use mdr_headings::is_character;
 use mdr_operand::{LocalName, Operand, expression_of, scalar_at};
 use mdr_rich::{Expr, Lval, Step, Stmt};
@@ -62,20 +62,22 @@ fn tested(place: Place, x: Operand) -> Result<Expr, Fault>
     }
 }
 
-/// The condition of the statement at this place.
+/// The condition of a statement.
 #[tactic(auto, unfolding(crate::specs::Statements::condition))]
 pub fn condition<R: Typing>(
     alloc: Global,
-    rules: &R,
-    scope: &Scope,
+    setting: &Setting<R>,
     here: &Here,
-    place: Place,
-    form: &Form,
+    test: Placed,
 ) -> Result<Result<Expr, Fault>, OutOfMemory>
-    ensures { IfOk result (λ r. r ≡ told (condition (R.rules rules.now) scope.now here.now place (written_of form.now))) }
+    ensures { IfOk result (λ r. r ≡ told (condition (R.rules setting.now.rules.now) setting.now.scope.now here.now test.entry.place (written_of test.entry.form.now))) }
 {
-    match rules.typed(alloc, scope, here.names.as_slice(), form)? {
-        Ok(x) => Ok(tested(place, x)),
+    let known = Known {
+        scope: setting.scope,
+        locals: here.names.as_slice(),
+    };
+    match setting.rules.typed(alloc, known, test.form)? {
+        Ok(x) => Ok(tested(test.place, x)),
         Err(fault) => Ok(Err(fault)),
     }
 }
@@ -89,21 +91,20 @@ fn some(e: Result<Expr, Fault>) -> Result<Option<Expr>, Fault>
     }
 }
 
-/// The test of a `for`, which may be missing.
+/// The test of the `for` at this place, which may be missing.
 #[tactic(auto, unfolding(crate::specs::Statements::perhaps_condition))]
 pub fn perhaps_condition<R: Typing>(
     alloc: Global,
-    rules: &R,
-    scope: &Scope,
+    setting: &Setting<R>,
     here: &Here,
     place: Place,
     form: &Option<Form>,
 ) -> Result<Result<Option<Expr>, Fault>, OutOfMemory>
-    ensures { IfOk result (λ r. r ≡ told (perhaps_condition (R.rules rules.now) scope.now here.now place (option_map written_of form.now))) }
+    ensures { IfOk result (λ r. r ≡ told (perhaps_condition (R.rules setting.now.rules.now) setting.now.scope.now here.now place (option_map written_of form.now))) }
 {
     match form {
         None => Ok(Ok(None)),
-        Some(form) => Ok(some(condition(alloc, rules, scope, here, place, form)?)),
+        Some(form) => Ok(some(condition(alloc, setting, here, Placed { place, form })?)),
     }
 }
 
@@ -175,60 +176,58 @@ fn text_step(
 fn value_step<R: Typing>(
     alloc: Global,
     rules: &R,
-    scope: &Scope,
-    names: &[LocalName],
-    place: Place,
-    slot: u32,
-    is_taken: bool,
+    known: Known,
+    target: Target,
     form: &Form,
     o: &Object,
 ) -> Result<Result<Step, Fault>, OutOfMemory>
-    ensures { IfOk result (λ r. r ≡ told (initial_by (R.rules rules.now) scope.now names.now place slot is_taken (written_of form.now) None o.now)) }
+    ensures { IfOk result (λ r. r ≡ told (initial_by ((R.rules rules.now).stored known.entry.scope.now known.entry.locals.now) target (written_of form.now) None o.now)) }
 {
+    let place = target.place;
     if !is_single(o) {
         return Ok(mismatch(place));
     }
-    let object = own_place(is_own_object(is_taken, o), slot, copied_type(alloc, &o.ty)?);
-    rules.stored(alloc, scope, names, place, object, &o.ty, form)
+    let is_object = is_own_object(target.is_taken, o);
+    let object = own_place(is_object, target.slot, copied_type(alloc, &o.ty)?);
+    rules.stored(alloc, known, object, &o.ty, Placed { place, form })
 }
 
 fn initial_by<R: Typing>(
     alloc: Global,
     rules: &R,
-    scope: &Scope,
-    names: &[LocalName],
-    place: Place,
-    slot: u32,
-    is_taken: bool,
+    known: Known,
+    target: Target,
     form: &Form,
     o: &Object,
 ) -> Result<Result<Step, Fault>, OutOfMemory>
-    ensures { IfOk result (λ r. r ≡ told (initial_by (R.rules rules.now) scope.now names.now place slot is_taken (written_of form.now) (text_of (written_of form.now)) o.now)) }
+    ensures { IfOk result (λ r. r ≡ told (initial_by ((R.rules rules.now).stored known.entry.scope.now known.entry.locals.now) target (written_of form.now) (text_of (written_of form.now)) o.now)) }
 {
     match text_of(form) {
-        None => value_step(alloc, rules, scope, names, place, slot, is_taken, form, o),
-        Some(bytes) => Ok(text_step(alloc, place, slot, bytes, o)?),
+        None => value_step(alloc, rules, known, target, form, o),
+        Some(bytes) => Ok(text_step(alloc, target.place, target.slot, bytes, o)?),
     }
 }
 
 /// The initialiser of a local, whose name is the last there.
 fn initial_among<R: Typing>(
     alloc: Global,
-    rules: &R,
-    scope: &Scope,
-    frame: &Frame,
+    setting: &Setting<R>,
     names: &[LocalName],
-    slot: u32,
-    is_taken: bool,
+    target: Target,
     d: &Decl,
     form: &Form,
 ) -> Result<Result<Step, Fault>, OutOfMemory>
-    ensures { IfOk result (λ r. r ≡ told (initial_among (R.rules rules.now) scope.now frame.now names.now slot is_taken d.now (written_of form.now))) }
+    ensures { IfOk result (λ r. r ≡ told (initial_among (given_setting R.rules setting.now) names.now target d.now (written_of form.now))) }
 {
-    match local_object(alloc, scope, frame.locks.as_slice(), d)? {
-        Ok(o) => initial_by(
-            alloc, rules, scope, names, d.place, slot, is_taken, form, &o,
-        ),
+    let scope = setting.scope;
+    match local_object(alloc, scope, setting.frame.locks.as_slice(), d)? {
+        Ok(o) => {
+            let known = Known {
+                scope,
+                locals: names,
+            };
+            initial_by(alloc, setting.rules, known, target, form, &o)
+        }
         Err(fault) => Ok(Err(fault)),
     }
 }
@@ -256,20 +255,16 @@ fn declared_then(
 
 fn initialised<R: Typing>(
     alloc: Global,
-    rules: &R,
-    scope: &Scope,
-    frame: &Frame,
+    setting: &Setting<R>,
     here: &Here,
-    slot: u32,
-    is_taken: bool,
+    target: Target,
     d: &Decl,
     form: &Form,
 ) -> Result<Result<Items<Stmt>, Fault>, OutOfMemory>
-    ensures { IfOk result (λ r. r ≡ told (initialised (R.rules rules.now) scope.now frame.now here.now slot is_taken d.now (written_of form.now))) }
+    ensures { IfOk result (λ r. r ≡ told (initialised (given_setting R.rules setting.now) here.now target d.now (written_of form.now))) }
 {
-    let declared = single(alloc, here.number, Step::Declare(slot))?;
-    let names = here.names.as_slice();
-    let step = initial_among(alloc, rules, scope, frame, names, slot, is_taken, d, form)?;
+    let declared = single(alloc, here.number, Step::Declare(target.slot))?;
+    let step = initial_among(alloc, setting, here.names.as_slice(), target, d, form)?;
     Ok(declared_then(declared, here.number, step)?)
 }
 
@@ -277,22 +272,34 @@ fn initialised<R: Typing>(
 #[tactic(auto, unfolding(crate::specs::Statements::local_made, crate::specs::Statements::initial_step, crate::specs::Locals::with_local))]
 pub fn local_made<R: Typing>(
     alloc: Global,
-    rules: &R,
-    scope: &Scope,
-    frame: &Frame,
+    setting: &Setting<R>,
     here: &mut Here,
     is_taken: bool,
     d: &Decl,
     init: &Option<Form>,
 ) -> Result<Result<Items<Stmt>, Fault>, OutOfMemory>
-    ensures told { IfOk result (λ r. r ≡ told (local_made (R.rules rules.now) scope.now frame.now here.old is_taken d.now (option_map written_of init.now))) }
-    ensures grown { OnOk result (here.new ≡ with_local scope.now frame.now.locks is_taken d.now here.old) }
+    ensures told { IfOk result (λ r. r ≡ told (local_made (given_setting R.rules setting.now) here.old is_taken d.now (option_map written_of init.now))) }
+    ensures grown { OnOk result (here.new ≡ with_local setting.now.scope.now setting.now.frame.now.locks is_taken d.now here.old) }
 {
     let slot = here.slot;
-    declare_local(alloc, scope, frame.locks.as_slice(), is_taken, d, here)?;
+    declare_local(
+        alloc,
+        setting.scope,
+        setting.frame.locks.as_slice(),
+        is_taken,
+        d,
+        here,
+    )?;
     match init {
         None => Ok(Ok(single(alloc, here.number, Step::Declare(slot))?)),
-        Some(form) => initialised(alloc, rules, scope, frame, here, slot, is_taken, d, form),
+        Some(form) => {
+            let target = Target {
+                place: d.place,
+                slot,
+                is_taken,
+            };
+            initialised(alloc, setting, here, target, d, form)
+        }
     }
 }
 
@@ -329,99 +336,101 @@ fn bare_return(place: Place, ty: &Ty) -> Result<Step, Fault>
 fn value_return<R: Typing>(
     alloc: Global,
     rules: &R,
-    scope: &Scope,
-    here: &Here,
-    place: Place,
-    form: &Form,
+    known: Known,
+    value: Placed,
     ty: &Ty,
 ) -> Result<Result<Step, Fault>, OutOfMemory>
-    ensures { IfOk result (λ r. r ≡ told (value_return (R.rules rules.now) scope.now here.now place (written_of form.now) ty.now)) }
+    ensures { IfOk result (λ r. r ≡ told (value_return ((R.rules rules.now).returned known.entry.scope.now known.entry.locals.now) value.entry.place (written_of value.entry.form.now) ty.now)) }
 {
     if is_void(ty) {
-        return Ok(mismatch(place));
+        return Ok(mismatch(value.place));
     }
-    rules.returned(alloc, scope, here.names.as_slice(), place, ty, form)
+    rules.returned(alloc, known, ty, value)
 }
 
 fn return_of<R: Typing>(
     alloc: Global,
     rules: &R,
-    scope: &Scope,
-    here: &Here,
+    known: Known,
     place: Place,
     form: &Option<Form>,
     ty: &Ty,
 ) -> Result<Result<Step, Fault>, OutOfMemory>
-    ensures { IfOk result (λ r. r ≡ told (return_by (R.rules rules.now) scope.now here.now place (option_map written_of form.now) ty.now)) }
+    ensures { IfOk result (λ r. r ≡ told (return_by ((R.rules rules.now).returned known.entry.scope.now known.entry.locals.now) place (option_map written_of form.now) ty.now)) }
 {
     match form {
         None => Ok(bare_return(place, ty)),
-        Some(form) => value_return(alloc, rules, scope, here, place, form, ty),
+        Some(form) => value_return(alloc, rules, known, Placed { place, form }, ty),
     }
 }
 
 #[tactic(auto, unfolding(crate::specs::Statements::return_step))]
 fn return_step<R: Typing>(
     alloc: Global,
-    rules: &R,
-    scope: &Scope,
-    frame: &Frame,
+    setting: &Setting<R>,
     here: &Here,
     place: Place,
     form: &Option<Form>,
 ) -> Result<Result<Step, Fault>, OutOfMemory>
-    ensures { IfOk result (λ r. r ≡ told (return_step (R.rules rules.now) scope.now frame.now here.now place (option_map written_of form.now))) }
+    ensures { IfOk result (λ r. r ≡ told (return_step (given_setting R.rules setting.now) here.now place (option_map written_of form.now))) }
 {
-    match &frame.result {
-        Ok(ty) => return_of(alloc, rules, scope, here, place, form, ty),
+    let known = Known {
+        scope: setting.scope,
+        locals: here.names.as_slice(),
+    };
+    match &setting.frame.result {
+        Ok(ty) => return_of(alloc, setting.rules, known, place, form, ty),
         Err(fault) => Ok(Err(*fault)),
     }
 }
 
+/// A `return` at this place.
 pub fn returned<R: Typing>(
     alloc: Global,
-    rules: &R,
-    scope: &Scope,
-    frame: &Frame,
+    setting: &Setting<R>,
     here: &Here,
     place: Place,
     form: &Option<Form>,
 ) -> Result<Result<Items<Stmt>, Fault>, OutOfMemory>
-    ensures { IfOk result (λ r. r ≡ told (stated here.now.number (return_step (R.rules rules.now) scope.now frame.now here.now place (option_map written_of form.now)))) }
+    ensures { IfOk result (λ r. r ≡ told (stated here.now.number (return_step (given_setting R.rules setting.now) here.now place (option_map written_of form.now)))) }
 {
-    let step = return_step(alloc, rules, scope, frame, here, place, form)?;
+    let step = return_step(alloc, setting, here, place, form)?;
     Ok(stated(alloc, here.number, step)?)
 }
 
 // ---- assignments and calls
 
+/// A statement that is an assignment.
 pub fn assigned<R: Typing>(
     alloc: Global,
-    rules: &R,
-    scope: &Scope,
+    setting: &Setting<R>,
     here: &Here,
-    at: Place,
-    operator: &[u8],
-    left: &Form,
-    right: &Form,
+    assignment: Assignment,
 ) -> Result<Result<Items<Stmt>, Fault>, OutOfMemory>
-    ensures { IfOk result (λ r. r ≡ told (stated here.now.number ((R.rules rules.now).assigned scope.now here.now.names at operator.now (written_of left.now) (written_of right.now)))) }
+    ensures { IfOk result (λ r. r ≡ told (stated here.now.number (assigned_by (R.rules setting.now.rules.now) setting.now.scope.now here.now.names assignment.entry))) }
 {
-    let names = here.names.as_slice();
-    let step = rules.assigned(alloc, scope, names, at, operator, left, right)?;
+    let known = Known {
+        scope: setting.scope,
+        locals: here.names.as_slice(),
+    };
+    let step = setting.rules.assigned(alloc, known, assignment)?;
     Ok(stated(alloc, here.number, step)?)
 }
 
+/// A statement that is a call.
 pub fn called<R: Typing>(
     alloc: Global,
-    rules: &R,
-    scope: &Scope,
+    setting: &Setting<R>,
     here: &Here,
     form: &Form,
 ) -> Result<Result<Items<Stmt>, Fault>, OutOfMemory>
-    ensures { IfOk result (λ r. r ≡ told (stated here.now.number ((R.rules rules.now).called scope.now here.now.names (written_of form.now)))) }
+    ensures { IfOk result (λ r. r ≡ told (stated here.now.number ((R.rules setting.now.rules.now).called setting.now.scope.now here.now.names (written_of form.now)))) }
 {
-    let step = rules.called(alloc, scope, here.names.as_slice(), form)?;
+    let known = Known {
+        scope: setting.scope,
+        locals: here.names.as_slice(),
+    };
+    let step = setting.rules.called(alloc, known, form)?;
     Ok(stated(alloc, here.number, step)?)
 }
 
@@ -463,23 +472,27 @@ pub fn broken(
 /// A statement that declares nothing.
 fn plain_made<R: Typing>(
     alloc: Global,
-    rules: &R,
-    scope: &Scope,
-    frame: &Frame,
+    setting: &Setting<R>,
     jumps: Jumps,
     here: &Here,
     place: Place,
     what: &NodeWhat,
 ) -> Result<Result<Items<Stmt>, Fault>, OutOfMemory>
-    ensures { (t : Bool) → IsPlain what.now place → IfOk result (λ r. r ≡ told (simple_made (R.rules rules.now) scope.now frame.now jumps here.now t (line_what what.now place))) }
+    ensures { (t : Bool) → IsPlain what.now place → IfOk result (λ r. r ≡ told (simple_made (given_setting R.rules setting.now) jumps here.now t (line_what what.now place))) }
 {
     match what {
         NodeWhat::Empty => empty(alloc, here.number),
         NodeWhat::Assign(at, operator, a, b) => {
-            assigned(alloc, rules, scope, here, *at, operator.as_slice(), a, b)
+            let assignment = Assignment {
+                at: *at,
+                operator: operator.as_slice(),
+                left: a,
+                right: b,
+            };
+            assigned(alloc, setting, here, assignment)
         }
-        NodeWhat::Plain(form) => called(alloc, rules, scope, here, form),
-        NodeWhat::Return(form) => returned(alloc, rules, scope, frame, here, place, form),
+        NodeWhat::Plain(form) => called(alloc, setting, here, form),
+        NodeWhat::Return(form) => returned(alloc, setting, here, place, form),
         NodeWhat::Break => broken(alloc, here.number, place, jumps),
         NodeWhat::Continue => jump(alloc, here.number, continued(place, jumps.in_loop)),
         NodeWhat::Local(_, _) => Ok(mismatch(place)),
@@ -495,22 +508,17 @@ fn plain_made<R: Typing>(
 /// A statement without parts; what it declares is known behind it.
 pub fn simple_made<R: Typing>(
     alloc: Global,
-    rules: &R,
-    scope: &Scope,
-    frame: &Frame,
-    jumps: Jumps,
+    setting: &Setting<R>,
+    standing: Standing,
     here: &mut Here,
-    is_taken: bool,
     place: Place,
     what: &NodeWhat,
 ) -> Result<Result<Items<Stmt>, Fault>, OutOfMemory>
-    ensures told { IfOk result (λ r. r ≡ told (simple_made (R.rules rules.now) scope.now frame.now jumps here.old is_taken (line_what what.now place))) }
-    ensures grown { OnOk result (here.new ≡ simple_behind scope.now frame.now here.old is_taken (line_what what.now place)) }
+    ensures told { IfOk result (λ r. r ≡ told (simple_made (given_setting R.rules setting.now) standing.jumps here.old standing.is_taken (line_what what.now place))) }
+    ensures grown { OnOk result (here.new ≡ simple_behind setting.now.scope.now setting.now.frame.now here.old standing.is_taken (line_what what.now place)) }
 {
     match what {
-        NodeWhat::Local(d, init) => {
-            local_made(alloc, rules, scope, frame, here, is_taken, d, init)
-        }
-        _ => plain_made(alloc, rules, scope, frame, jumps, here, place, what),
+        NodeWhat::Local(d, init) => { local_made(alloc, setting, here, standing.is_taken, d, init) }
+        _ => plain_made(alloc, setting, standing.jumps, here, place, what),
     }
 }

@@ -15,8 +15,8 @@ ghost use Rattle.mdr_body.specs.Statements.{no_jumps, loop_jumps, clause_jumps, 
 ghost use Rattle.mdr_body.specs.Statements.{pair, taken_behind, head_taken, steps_made, steps_behind, ForHead, as_part};
 ghost use Rattle.mdr_body.specs.Statements.{if_of, while_of, for_of, do_of, tested_value, tested_at, simple_made};
 ghost use Rattle.mdr_body.specs.Statements.{simple_behind, line_behind, perhaps_behind, lines_behind, line_made};
-ghost use Rattle.mdr_body.specs.Statements.{perhaps_made, lines_made, clauses_behind, clauses_made};
-ghost use Rattle.mdr_body.specs.Pieces.{init_made, init_behind, init_and_test, head_made, head_behind, half_made};
+ghost use Rattle.mdr_body.specs.Statements.{perhaps_made, lines_made, clauses_behind, clauses_made, in_part, in_list};
+ghost use Rattle.mdr_body.specs.Pieces.{given_setting, tail_in, init_made, init_behind, init_and_test, head_made, head_behind, half_made};
 ghost use Rattle.mdr_body.specs.Pieces.{half_behind, part_of, while_line, for_line, do_line, switch_line, loop_made};
 ghost use Rattle.mdr_body.specs.Pieces.{statement_made, statement_behind, clause_made, ended_made, block_made};
 ghost use Rattle.mdr_body.specs.Pieces.{block_behind};
@@ -25,17 +25,19 @@ use crate::address::{perhaps_takes, perhaps_takes_at, takes_along, takes_at};
 use crate::clauses::{
     MadeClause, clause_place, ends, label_kind, made_clause, switch_of, tested_value,
 };
-use crate::here::{Breaks, Frame, Here, Jumps, Tested};
+use crate::here::{
+    Breaks, ClauseStanding, ForParts, Here, Jumps, Placed, Setting, Standing, Tested,
+};
 use crate::labels::{CaseLabel, labels_made};
 use crate::locals::{count, leave, takes};
 use crate::release::left_over;
 use crate::simple::{condition, perhaps_condition, simple_made, single};
 use crate::typing::Typing;
 use mdr_core::{Boxed, Items, Name, OutOfMemory, Place};
-use mdr_faults::{Fault, FaultKind, Scope, both, demanded, followed};
+use mdr_faults::{Fault, FaultKind, both, demanded, followed};
 use mdr_operand::Integer;
 use mdr_rich::{Expr, Step, Stmt};
-use mdr_syntax::{Clause, Form, Label, Node, NodeWhat};
+use mdr_syntax::{Clause, Form, Node, NodeWhat};
 use std::alloc::{AllocError, Global};
 
 // ---- whose addresses are taken
@@ -45,18 +47,7 @@ fn is_taken_at(place: Place, what: &NodeWhat, rest: &[Node]) -> bool
 {
     match what {
         NodeWhat::Local(d, init) => takes(&d.name, init, rest),
-        NodeWhat::Empty => false,
-        NodeWhat::Block(_) => false,
-        NodeWhat::Assign(_, _, _, _) => false,
-        NodeWhat::Plain(_) => false,
-        NodeWhat::If(_, _, _) => false,
-        NodeWhat::While(_, _) => false,
-        NodeWhat::For(_, _, _, _) => false,
-        NodeWhat::Do(_, _) => false,
-        NodeWhat::Switch(_, _) => false,
-        NodeWhat::Return(_) => false,
-        NodeWhat::Break => false,
-        NodeWhat::Continue => false,
+        _ => false,
     }
 }
 
@@ -74,82 +65,51 @@ pub fn taken_at(n: &Node, nodes: &[Node], i: usize) -> bool
     is_taken(n, &nodes[i + 1..])
 }
 
-fn tail_takes(test: &Option<Form>, step: &Option<Boxed<Node>>, body: &Node, name: &[u8]) -> bool
-    ensures { result ≡ (perhaps_takes name.now (option_map written_of test.now) || (takes_along name.now (part_of step.now) false || takes_at name.now (line_of body.now))) }
+fn tail_takes(parts: ForParts, body: &Node, name: &[u8]) -> bool
+    ensures { result ≡ (perhaps_takes name.now (option_map written_of parts.entry.test.now) || (takes_along name.now (part_of parts.entry.step.now) false || takes_at name.now (line_of body.now))) }
 {
-    perhaps_takes(test, name) || perhaps_takes_at(step, name) || takes_at(body, name)
+    perhaps_takes(parts.test, name) || perhaps_takes_at(parts.step, name) || takes_at(body, name)
 }
 
 fn taken_behind(
     name: &Option<Name>,
     init: &Option<Form>,
     rest: &[Node],
-    test: &Option<Form>,
-    step: &Option<Boxed<Node>>,
+    parts: ForParts,
     body: &Node,
 ) -> bool
-    ensures { result ≡ taken_behind name.now (option_map written_of init.now) (lines_of rest.now) (option_map written_of test.now) (part_of step.now) (line_of body.now) }
+    ensures { result ≡ taken_behind name.now (option_map written_of init.now) (lines_of rest.now) (tail_in parts.entry body.now) }
 {
     match name {
         None => false,
         Some(name) => {
-            let behind = tail_takes(test, step, body, name.as_slice());
+            let behind = tail_takes(parts, body, name.as_slice());
             perhaps_takes(init, name.as_slice()) || takes_along(rest, name.as_slice(), behind)
         }
     }
 }
 
-fn head_taken_at(
-    place: Place,
-    what: &NodeWhat,
-    rest: &[Node],
-    test: &Option<Form>,
-    step: &Option<Boxed<Node>>,
-    body: &Node,
-) -> bool
-    ensures { result ≡ head_taken (line_what what.now place) (lines_of rest.now) (option_map written_of test.now) (part_of step.now) (line_of body.now) }
+fn head_taken_at(place: Place, what: &NodeWhat, rest: &[Node], parts: ForParts, body: &Node) -> bool
+    ensures { result ≡ head_taken (line_what what.now place) (lines_of rest.now) (tail_in parts.entry body.now) }
 {
     match what {
-        NodeWhat::Local(d, init) => taken_behind(&d.name, init, rest, test, step, body),
-        NodeWhat::Empty => false,
-        NodeWhat::Block(_) => false,
-        NodeWhat::Assign(_, _, _, _) => false,
-        NodeWhat::Plain(_) => false,
-        NodeWhat::If(_, _, _) => false,
-        NodeWhat::While(_, _) => false,
-        NodeWhat::For(_, _, _, _) => false,
-        NodeWhat::Do(_, _) => false,
-        NodeWhat::Switch(_, _) => false,
-        NodeWhat::Return(_) => false,
-        NodeWhat::Break => false,
-        NodeWhat::Continue => false,
+        NodeWhat::Local(d, init) => taken_behind(&d.name, init, rest, parts, body),
+        _ => false,
     }
 }
 
-fn head_taken(
-    n: &Node,
-    rest: &[Node],
-    test: &Option<Form>,
-    step: &Option<Boxed<Node>>,
-    body: &Node,
-) -> bool
-    ensures { result ≡ head_taken (line_of n.now) (lines_of rest.now) (option_map written_of test.now) (part_of step.now) (line_of body.now) }
+fn head_taken(n: &Node, rest: &[Node], parts: ForParts, body: &Node) -> bool
+    ensures { result ≡ head_taken (line_of n.now) (lines_of rest.now) (tail_in parts.entry body.now) }
 {
-    head_taken_at(n.place, &n.what, rest, test, step, body)
+    head_taken_at(n.place, &n.what, rest, parts, body)
 }
 
-pub fn head_taken_in(
-    n: &Node,
-    nodes: &[Node],
-    i: usize,
-    test: &Option<Form>,
-    step: &Option<Boxed<Node>>,
-    body: &Node,
-) -> bool
-    requires { i < length nodes.now }
-    ensures { result ≡ head_taken (line_of n.now) (lines_of (drop (i + 1) nodes.now)) (option_map written_of test.now) (part_of step.now) (line_of body.now) }
+/// Whether the address of what a statement in the init of a `for` declares is taken behind it, in the head or the body.
+pub fn head_taken_in(n: &Node, i: usize, parts: ForParts, body: &Node) -> bool
+    requires { i < length parts.init.now }
+    ensures { result ≡ head_taken (line_of n.now) (lines_of (drop (i + 1) parts.entry.init.now)) (tail_in parts.entry body.now) }
 {
-    head_taken(n, &nodes[i + 1..], test, step, body)
+    head_taken(n, &parts.init[i + 1..], parts, body)
 }
 
 // ---- parts and their numbers
@@ -160,29 +120,23 @@ pub fn paired<A: Drop, B: Drop>(a: Result<A, Fault>, b: Result<B, Fault>) -> Res
     both(a, b)
 }
 
+/// A statement in the brackets of a `for`.
 fn simple_node<R: Typing>(
     alloc: Global,
-    rules: &R,
-    scope: &Scope,
-    frame: &Frame,
-    here: &mut Here,
+    setting: &Setting<R>,
     is_taken: bool,
+    here: &mut Here,
     n: &Node,
 ) -> Result<Result<Items<Stmt>, Fault>, OutOfMemory>
-    ensures told { IfOk result (λ r. r ≡ told (simple_made (R.rules rules.now) scope.now frame.now no_jumps here.old is_taken (line_of n.now))) }
-    ensures grown { OnOk result (here.new ≡ simple_behind scope.now frame.now here.old is_taken (line_of n.now)) }
+    ensures told { IfOk result (λ r. r ≡ told (simple_made (given_setting R.rules setting.now) no_jumps here.old is_taken (line_of n.now))) }
+    ensures grown { OnOk result (here.new ≡ simple_behind setting.now.scope.now setting.now.frame.now here.old is_taken (line_of n.now)) }
 {
-    simple_made(
-        alloc,
-        rules,
-        scope,
-        frame,
-        no_jumps(),
-        here,
+    let standing = Standing {
+        jumps: no_jumps(),
+        is_part: false,
         is_taken,
-        n.place,
-        &n.what,
-    )
+    };
+    simple_made(alloc, setting, standing, here, n.place, &n.what)
 }
 
 /// What was made, behind a statement's number.
@@ -194,54 +148,47 @@ fn counted<A: Drop>(here: &mut Here, made: A) -> Result<A, OutOfMemory>
     Ok(made)
 }
 
+/// A statement without parts, with its number.
 pub fn simple_counted<R: Typing>(
     alloc: Global,
-    rules: &R,
-    scope: &Scope,
-    frame: &Frame,
-    jumps: Jumps,
+    setting: &Setting<R>,
+    standing: Standing,
     here: &mut Here,
-    is_taken: bool,
     place: Place,
     what: &NodeWhat,
 ) -> Result<Result<Items<Stmt>, Fault>, OutOfMemory>
-    ensures told { IfOk result (λ r. r ≡ told (simple_made (R.rules rules.now) scope.now frame.now jumps here.old is_taken (line_what what.now place))) }
-    ensures grown { OnOk result (here.new ≡ numbered (simple_behind scope.now frame.now here.old is_taken (line_what what.now place))) }
+    ensures told { IfOk result (λ r. r ≡ told (simple_made (given_setting R.rules setting.now) standing.jumps here.old standing.is_taken (line_what what.now place))) }
+    ensures grown { OnOk result (here.new ≡ numbered (simple_behind setting.now.scope.now setting.now.frame.now here.old standing.is_taken (line_what what.now place))) }
 {
-    let made = simple_made(
-        alloc, rules, scope, frame, jumps, here, is_taken, place, what,
-    )?;
+    let made = simple_made(alloc, setting, standing, here, place, what)?;
     count(here)?;
     Ok(made)
 }
 
+/// The condition of a statement, with the statement's number.
 pub fn condition_counted<R: Typing>(
     alloc: Global,
-    rules: &R,
-    scope: &Scope,
+    setting: &Setting<R>,
     here: &mut Here,
-    place: Place,
-    form: &Form,
+    test: Placed,
 ) -> Result<Result<Expr, Fault>, OutOfMemory>
-    ensures told { IfOk result (λ r. r ≡ told (condition (R.rules rules.now) scope.now here.old place (written_of form.now))) }
+    ensures told { IfOk result (λ r. r ≡ told (condition (R.rules setting.now.rules.now) setting.now.scope.now here.old test.entry.place (written_of test.entry.form.now))) }
     ensures grown { OnOk result (here.new ≡ numbered here.old) }
 {
-    let made = condition(alloc, rules, scope, here, place, form)?;
+    let made = condition(alloc, setting, here, test)?;
     counted(here, made)
 }
 
 fn tested_counted<R: Typing>(
     alloc: Global,
-    rules: &R,
-    scope: &Scope,
+    setting: &Setting<R>,
     here: &mut Here,
-    place: Place,
-    form: &Form,
+    test: Placed,
 ) -> Result<Result<Integer, Fault>, OutOfMemory>
-    ensures told { IfOk result (λ r. r ≡ told (tested_value (R.rules rules.now) scope.now here.old place (written_of form.now))) }
+    ensures told { IfOk result (λ r. r ≡ told (tested_value (R.rules setting.now.rules.now) setting.now.scope.now here.old test.entry.place (written_of test.entry.form.now))) }
     ensures grown { OnOk result (here.new ≡ numbered here.old) }
 {
-    let made = tested_value(alloc, rules, scope, here, place, form)?;
+    let made = tested_value(alloc, setting, here, test)?;
     counted(here, made)
 }
 
@@ -308,6 +255,17 @@ fn jumps_before(jumps: Jumps, rest: &[Node]) -> Jumps
     }
 }
 
+/// How a part of another statement stands.
+fn in_part(jumps: Jumps) -> Standing
+    ensures { result ≡ in_part jumps }
+{
+    Standing {
+        jumps,
+        is_part: true,
+        is_taken: false,
+    }
+}
+
 fn is_last(behind: &[Clause]) -> bool
     ensures { result ≡ is_last (clauses_of behind.now) }
 {
@@ -330,35 +288,36 @@ fn jumps_at(jumps: Jumps, nodes: &[Node], i: usize) -> Jumps
     jumps_before(jumps, &nodes[i + 1..])
 }
 
+/// How the statement of number i stands among those of its list.
+fn in_list(jumps: Jumps, n: &Node, nodes: &[Node], i: usize) -> Standing
+    requires { i < length nodes.now }
+    ensures { result ≡ in_list jumps (line_of n.now) (lines_of (drop (i + 1) nodes.now)) }
+{
+    Standing {
+        jumps: jumps_at(jumps, nodes, i),
+        is_part: false,
+        is_taken: taken_at(n, nodes, i),
+    }
+}
+
 // ---- the head of a `for`
 
 #[tactic(auto, using(mdr_faults::proofs::Gathered::followed_none), unfolding(crate::specs::Statements::heads_made, crate::specs::Statements::heads_behind))]
 fn heads<R: Typing>(
     alloc: Global,
-    rules: &R,
-    scope: &Scope,
-    frame: &Frame,
+    setting: &Setting<R>,
     here: &mut Here,
-    test: &Option<Form>,
-    step: &Option<Boxed<Node>>,
+    parts: ForParts,
     body: &Node,
-    init: &[Node],
 ) -> Result<Result<Items<Stmt>, Fault>, OutOfMemory>
-    ensures told { IfOk result (λ r. r ≡ told (init_made (R.rules rules.now) scope.now frame.now here.old init.now test.now step.now body.now)) }
-    ensures grown { OnOk result (here.new ≡ init_behind scope.now frame.now here.old init.now test.now step.now body.now) }
+    ensures told { IfOk result (λ r. r ≡ told (init_made (given_setting R.rules setting.now) here.old parts.entry body.now)) }
+    ensures grown { OnOk result (here.new ≡ init_behind (given_setting R.rules setting.now) here.old parts.entry body.now) }
 {
+    let init = parts.init;
     let mut all = Ok(Items::new(alloc));
     for i in 0..init.len() {
         let n = &init[i];
-        let made = simple_node(
-            alloc,
-            rules,
-            scope,
-            frame,
-            here,
-            head_taken_in(n, init, i, test, step, body),
-            n,
-        )?;
+        let made = simple_node(alloc, setting, head_taken_in(n, i, parts, body), here, n)?;
         all = followed(all, made)?;
     }
     Ok(all)
@@ -367,53 +326,45 @@ fn heads<R: Typing>(
 /// The init and the test of the `for` at this place.
 fn init_and_test<R: Typing>(
     alloc: Global,
-    rules: &R,
-    scope: &Scope,
-    frame: &Frame,
+    setting: &Setting<R>,
     here: &mut Here,
     place: Place,
-    init: &[Node],
-    test: &Option<Form>,
-    step: &Option<Boxed<Node>>,
+    parts: ForParts,
     body: &Node,
 ) -> Result<Result<(Items<Stmt>, Option<Expr>), Fault>, OutOfMemory>
-    ensures told { IfOk result (λ r. r ≡ told (init_and_test (R.rules rules.now) scope.now frame.now here.old place init.now test.now step.now body.now)) }
-    ensures grown { OnOk result (here.new ≡ init_behind scope.now frame.now here.old init.now test.now step.now body.now) }
+    ensures told { IfOk result (λ r. r ≡ told (init_and_test (given_setting R.rules setting.now) here.old place parts.entry body.now)) }
+    ensures grown { OnOk result (here.new ≡ init_behind (given_setting R.rules setting.now) here.old parts.entry body.now) }
 {
-    let first = heads(alloc, rules, scope, frame, here, test, step, body, init)?;
-    let second = perhaps_condition(alloc, rules, scope, here, place, test)?;
+    let first = heads(alloc, setting, here, parts, body)?;
+    let second = perhaps_condition(alloc, setting, here, place, parts.test)?;
     Ok(paired(first, second))
 }
 
 fn last_part<R: Typing>(
     alloc: Global,
-    rules: &R,
-    scope: &Scope,
-    frame: &Frame,
+    setting: &Setting<R>,
     here: &mut Here,
     step: &Option<Boxed<Node>>,
 ) -> Result<Result<Items<Stmt>, Fault>, OutOfMemory>
-    ensures told { IfOk result (λ r. r ≡ told (steps_made (R.rules rules.now) scope.now frame.now here.old (part_of step.now))) }
-    ensures grown { OnOk result (here.new ≡ steps_behind scope.now frame.now here.old (part_of step.now)) }
+    ensures told { IfOk result (λ r. r ≡ told (steps_made (given_setting R.rules setting.now) here.old (part_of step.now))) }
+    ensures grown { OnOk result (here.new ≡ steps_behind setting.now.scope.now setting.now.frame.now here.old (part_of step.now)) }
 {
     match step {
         None => Ok(Ok(Items::new(alloc))),
-        Some(n) => simple_node(alloc, rules, scope, frame, here, false, n.get()),
+        Some(n) => simple_node(alloc, setting, false, here, n.get()),
     }
 }
 
 fn last_counted<R: Typing>(
     alloc: Global,
-    rules: &R,
-    scope: &Scope,
-    frame: &Frame,
+    setting: &Setting<R>,
     here: &mut Here,
     step: &Option<Boxed<Node>>,
 ) -> Result<Result<Items<Stmt>, Fault>, OutOfMemory>
-    ensures told { IfOk result (λ r. r ≡ told (steps_made (R.rules rules.now) scope.now frame.now here.old (part_of step.now))) }
-    ensures grown { OnOk result (here.new ≡ numbered (steps_behind scope.now frame.now here.old (part_of step.now))) }
+    ensures told { IfOk result (λ r. r ≡ told (steps_made (given_setting R.rules setting.now) here.old (part_of step.now))) }
+    ensures grown { OnOk result (here.new ≡ numbered (steps_behind setting.now.scope.now setting.now.frame.now here.old (part_of step.now))) }
 {
-    let made = last_part(alloc, rules, scope, frame, here, step)?;
+    let made = last_part(alloc, setting, here, step)?;
     count(here)?;
     Ok(made)
 }
@@ -422,23 +373,17 @@ fn last_counted<R: Typing>(
 #[tactic(auto, unfolding(crate::specs::Statements::for_head, crate::specs::Statements::behind_head))]
 pub fn for_head<R: Typing>(
     alloc: Global,
-    rules: &R,
-    scope: &Scope,
-    frame: &Frame,
+    setting: &Setting<R>,
     here: &mut Here,
     place: Place,
-    init: &[Node],
-    test: &Option<Form>,
-    step: &Option<Boxed<Node>>,
+    parts: ForParts,
     body: &Node,
 ) -> Result<Result<((Items<Stmt>, Option<Expr>), Items<Stmt>), Fault>, OutOfMemory>
-    ensures told { IfOk result (λ r. r ≡ told (head_made (R.rules rules.now) scope.now frame.now here.old place init.now test.now step.now body.now)) }
-    ensures grown { OnOk result (here.new ≡ head_behind scope.now frame.now here.old init.now test.now step.now body.now) }
+    ensures told { IfOk result (λ r. r ≡ told (head_made (given_setting R.rules setting.now) here.old place parts.entry body.now)) }
+    ensures grown { OnOk result (here.new ≡ head_behind (given_setting R.rules setting.now) here.old parts.entry body.now) }
 {
-    let two = init_and_test(
-        alloc, rules, scope, frame, here, place, init, test, step, body,
-    )?;
-    match last_counted(alloc, rules, scope, frame, here, step) {
+    let two = init_and_test(alloc, setting, here, place, parts, body)?;
+    match last_counted(alloc, setting, here, parts.step) {
         Ok(third) => Ok(paired(two, third)),
         Err(error) => left_over(error, two),
     }
@@ -526,91 +471,77 @@ pub fn do_of(
 #[cycle(line)]
 fn line<R: Typing>(
     alloc: Global,
-    rules: &R,
-    scope: &Scope,
-    frame: &Frame,
-    jumps: Jumps,
-    is_part: bool,
+    setting: &Setting<R>,
+    standing: Standing,
     here: &mut Here,
-    is_taken: bool,
     n: &Node,
 ) -> Result<Result<Items<Stmt>, Fault>, OutOfMemory>
-    ensures told { IfOk result (λ r. r ≡ told (line_made (R.rules rules.now) scope.now frame.now jumps is_part here.old is_taken (line_of n.now))) }
-    ensures grown { OnOk result (here.new ≡ line_behind scope.now frame.now here.old is_taken (line_of n.now)) }
+    ensures told { IfOk result (λ r. r ≡ told (line_made (given_setting R.rules setting.now) standing here.old (line_of n.now))) }
+    ensures grown { OnOk result (here.new ≡ line_behind setting.now.scope.now setting.now.frame.now here.old standing.is_taken (line_of n.now)) }
 {
-    line_at(
-        alloc, rules, scope, frame, jumps, is_part, here, is_taken, n.place, &n.what,
-    )
+    line_at(alloc, setting, standing, here, n.place, &n.what)
 }
 
 #[cycle(line)]
 fn line_at<R: Typing>(
     alloc: Global,
-    rules: &R,
-    scope: &Scope,
-    frame: &Frame,
-    jumps: Jumps,
-    is_part: bool,
+    setting: &Setting<R>,
+    standing: Standing,
     here: &mut Here,
-    is_taken: bool,
     place: Place,
     what: &NodeWhat,
 ) -> Result<Result<Items<Stmt>, Fault>, OutOfMemory>
-    ensures told { IfOk result (λ r. r ≡ told (line_made (R.rules rules.now) scope.now frame.now jumps is_part here.old is_taken (line_what what.now place))) }
-    ensures grown { OnOk result (here.new ≡ line_behind scope.now frame.now here.old is_taken (line_what what.now place)) }
+    ensures told { IfOk result (λ r. r ≡ told (line_made (given_setting R.rules setting.now) standing here.old (line_what what.now place))) }
+    ensures grown { OnOk result (here.new ≡ line_behind setting.now.scope.now setting.now.frame.now here.old standing.is_taken (line_what what.now place)) }
 {
+    let jumps = standing.jumps;
     match what {
         NodeWhat::Block(body) => {
+            let inner = inner_jumps(jumps);
             block(
                 alloc,
-                rules,
-                scope,
-                frame,
-                inner_jumps(jumps),
-                is_part,
+                setting,
+                inner,
+                standing.is_part,
                 here,
                 body.as_slice(),
             )
         }
-        NodeWhat::If(e, one, other) => {
+        NodeWhat::If(form, one, other) => {
             let n = here.number;
-            let jumps = inner_jumps(jumps);
-            let half = if_half(alloc, rules, scope, frame, jumps, here, place, one.get(), e)?;
-            match perhaps_line(alloc, rules, scope, frame, jumps, here, other) {
+            let inner = inner_jumps(jumps);
+            let half = if_half(
+                alloc,
+                setting,
+                inner,
+                here,
+                one.get(),
+                Placed { place, form },
+            )?;
+            match perhaps_line(alloc, setting, inner, here, other) {
                 Ok(other) => Ok(if_of(alloc, n, half, other)?),
                 Err(error) => left_over(error, half),
             }
         }
-        NodeWhat::While(e, body) => {
-            while_made(alloc, rules, scope, frame, here, place, body.get(), e)
+        NodeWhat::While(form, body) => {
+            while_made(alloc, setting, here, body.get(), Placed { place, form })
         }
-        NodeWhat::For(init, test, step, body) => for_made(
-            alloc,
-            rules,
-            scope,
-            frame,
-            here,
-            place,
-            body.get(),
-            init.as_slice(),
-            test,
-            step,
-        ),
-        NodeWhat::Do(body, e) => { do_made(alloc, rules, scope, frame, here, place, body.get(), e) }
-        NodeWhat::Switch(e, clauses) => switch_made(
-            alloc,
-            rules,
-            scope,
-            frame,
-            jumps,
-            here,
-            place,
-            clauses.as_slice(),
-            e,
-        ),
-        _ => simple_counted(
-            alloc, rules, scope, frame, jumps, here, is_taken, place, what,
-        ),
+        NodeWhat::For(init, test, step, body) => {
+            let parts = ForParts {
+                init: init.as_slice(),
+                test,
+                step,
+            };
+            for_made(alloc, setting, here, place, body.get(), parts)
+        }
+        NodeWhat::Do(body, form) => {
+            do_made(alloc, setting, here, body.get(), Placed { place, form })
+        }
+        NodeWhat::Switch(form, clauses) => {
+            let test = Placed { place, form };
+            switch_made(alloc, setting, jumps, here, clauses.as_slice(), test)
+        }
+        _ => simple_counted(alloc, setting, standing, here, place, what),
     }
 }
 
@@ -618,20 +549,17 @@ fn line_at<R: Typing>(
 #[cycle(line)]
 fn if_half<R: Typing>(
     alloc: Global,
-    rules: &R,
-    scope: &Scope,
-    frame: &Frame,
+    setting: &Setting<R>,
     jumps: Jumps,
     here: &mut Here,
-    place: Place,
     one: &Node,
-    e: &Form,
+    test: Placed,
 ) -> Result<Result<(Expr, Items<Stmt>), Fault>, OutOfMemory>
-    ensures told { IfOk result (λ r. r ≡ told (half_made (R.rules rules.now) scope.now frame.now jumps here.old place e.now one.now)) }
-    ensures grown { OnOk result (here.new ≡ half_behind scope.now frame.now here.old one.now) }
+    ensures told { IfOk result (λ r. r ≡ told (half_made (given_setting R.rules setting.now) jumps here.old test.entry one.now)) }
+    ensures grown { OnOk result (here.new ≡ half_behind (given_setting R.rules setting.now) here.old one.now) }
 {
-    let head = condition_counted(alloc, rules, scope, here, place, e)?;
-    match line(alloc, rules, scope, frame, jumps, true, here, false, one) {
+    let head = condition_counted(alloc, setting, here, test)?;
+    match line(alloc, setting, in_part(jumps), here, one) {
         Ok(one) => Ok(paired(head, one)),
         Err(error) => left_over(error, head),
     }
@@ -641,59 +569,48 @@ fn if_half<R: Typing>(
 #[cycle(line)]
 fn perhaps_line<R: Typing>(
     alloc: Global,
-    rules: &R,
-    scope: &Scope,
-    frame: &Frame,
+    setting: &Setting<R>,
     jumps: Jumps,
     here: &mut Here,
     n: &Option<Boxed<Node>>,
 ) -> Result<Result<Items<Stmt>, Fault>, OutOfMemory>
-    ensures told { IfOk result (λ r. r ≡ told (perhaps_made (R.rules rules.now) scope.now frame.now jumps here.old (part_of n.now))) }
-    ensures grown { OnOk result (here.new ≡ perhaps_behind scope.now frame.now here.old (part_of n.now)) }
+    ensures told { IfOk result (λ r. r ≡ told (perhaps_made (given_setting R.rules setting.now) jumps here.old (part_of n.now))) }
+    ensures grown { OnOk result (here.new ≡ perhaps_behind setting.now.scope.now setting.now.frame.now here.old (part_of n.now)) }
 {
     match n {
         None => Ok(Ok(Items::new(alloc))),
-        Some(n) => line(
-            alloc,
-            rules,
-            scope,
-            frame,
-            jumps,
-            true,
-            here,
-            false,
-            n.get(),
-        ),
+        Some(n) => line(alloc, setting, in_part(jumps), here, n.get()),
     }
+}
+
+/// The body of a loop.
+#[cycle(line)]
+fn loop_body<R: Typing>(
+    alloc: Global,
+    setting: &Setting<R>,
+    here: &mut Here,
+    body: &Node,
+) -> Result<Result<Items<Stmt>, Fault>, OutOfMemory>
+    ensures told { IfOk result (λ r. r ≡ told (statement_made (given_setting R.rules setting.now) loop_jumps here.old (line_of body.now))) }
+    ensures grown { OnOk result (here.new ≡ statement_behind (given_setting R.rules setting.now) here.old (line_of body.now)) }
+{
+    line(alloc, setting, in_part(loop_jumps()), here, body)
 }
 
 #[cycle(line)]
 fn while_made<R: Typing>(
     alloc: Global,
-    rules: &R,
-    scope: &Scope,
-    frame: &Frame,
+    setting: &Setting<R>,
     here: &mut Here,
-    place: Place,
     body: &Node,
-    e: &Form,
+    test: Placed,
 ) -> Result<Result<Items<Stmt>, Fault>, OutOfMemory>
-    ensures told { IfOk result (λ r. r ≡ told (loop_made (R.rules rules.now) scope.now frame.now here.old (while_line place e.now body.now))) }
-    ensures grown { OnOk result (here.new ≡ statement_behind scope.now frame.now here.old (while_line place e.now body.now)) }
+    ensures told { IfOk result (λ r. r ≡ told (loop_made (given_setting R.rules setting.now) here.old (while_line test.entry body.now))) }
+    ensures grown { OnOk result (here.new ≡ statement_behind (given_setting R.rules setting.now) here.old (while_line test.entry body.now)) }
 {
     let n = here.number;
-    let head = condition_counted(alloc, rules, scope, here, place, e)?;
-    match line(
-        alloc,
-        rules,
-        scope,
-        frame,
-        loop_jumps(),
-        true,
-        here,
-        false,
-        body,
-    ) {
+    let head = condition_counted(alloc, setting, here, test)?;
+    match loop_body(alloc, setting, here, body) {
         Ok(body) => Ok(while_of(alloc, n, head, body)?),
         Err(error) => left_over(error, head),
     }
@@ -702,37 +619,21 @@ fn while_made<R: Typing>(
 #[cycle(line)]
 fn for_made<R: Typing>(
     alloc: Global,
-    rules: &R,
-    scope: &Scope,
-    frame: &Frame,
+    setting: &Setting<R>,
     here: &mut Here,
     place: Place,
     body: &Node,
-    init: &[Node],
-    test: &Option<Form>,
-    step: &Option<Boxed<Node>>,
+    parts: ForParts,
 ) -> Result<Result<Items<Stmt>, Fault>, OutOfMemory>
-    ensures told { IfOk result (λ r. r ≡ told (loop_made (R.rules rules.now) scope.now frame.now here.old (for_line place init.now test.now step.now body.now))) }
-    ensures grown { OnOk result (here.new ≡ statement_behind scope.now frame.now here.old (for_line place init.now test.now step.now body.now)) }
+    ensures told { IfOk result (λ r. r ≡ told (loop_made (given_setting R.rules setting.now) here.old (for_line place parts.entry body.now))) }
+    ensures grown { OnOk result (here.new ≡ statement_behind (given_setting R.rules setting.now) here.old (for_line place parts.entry body.now)) }
 {
     let n = here.number;
     let names = here.names.len();
     let first = here.first;
     here.first = here.slot;
-    let head = for_head(
-        alloc, rules, scope, frame, here, place, init, test, step, body,
-    )?;
-    match line(
-        alloc,
-        rules,
-        scope,
-        frame,
-        loop_jumps(),
-        true,
-        here,
-        false,
-        body,
-    ) {
+    let head = for_head(alloc, setting, here, place, parts, body)?;
+    match loop_body(alloc, setting, here, body) {
         Ok(inside) => {
             leave(alloc, names, first, here);
             Ok(for_of(alloc, n, head, inside)?)
@@ -744,31 +645,18 @@ fn for_made<R: Typing>(
 #[cycle(line)]
 fn do_made<R: Typing>(
     alloc: Global,
-    rules: &R,
-    scope: &Scope,
-    frame: &Frame,
+    setting: &Setting<R>,
     here: &mut Here,
-    place: Place,
     body: &Node,
-    e: &Form,
+    test: Placed,
 ) -> Result<Result<Items<Stmt>, Fault>, OutOfMemory>
-    ensures told { IfOk result (λ r. r ≡ told (loop_made (R.rules rules.now) scope.now frame.now here.old (do_line place body.now e.now))) }
-    ensures grown { OnOk result (here.new ≡ statement_behind scope.now frame.now here.old (do_line place body.now e.now)) }
+    ensures told { IfOk result (λ r. r ≡ told (loop_made (given_setting R.rules setting.now) here.old (do_line body.now test.entry))) }
+    ensures grown { OnOk result (here.new ≡ statement_behind (given_setting R.rules setting.now) here.old (do_line body.now test.entry)) }
 {
     let n = here.number;
     count(here)?;
-    let inside = line(
-        alloc,
-        rules,
-        scope,
-        frame,
-        loop_jumps(),
-        true,
-        here,
-        false,
-        body,
-    )?;
-    match condition(alloc, rules, scope, here, place, e) {
+    let inside = loop_body(alloc, setting, here, body)?;
+    match condition(alloc, setting, here, test) {
         Ok(test) => Ok(do_of(alloc, n, inside, test)?),
         Err(error) => left_over(error, inside),
     }
@@ -777,23 +665,19 @@ fn do_made<R: Typing>(
 #[cycle(line)]
 fn switch_made<R: Typing>(
     alloc: Global,
-    rules: &R,
-    scope: &Scope,
-    frame: &Frame,
+    setting: &Setting<R>,
     jumps: Jumps,
     here: &mut Here,
-    place: Place,
     clauses: &[Clause],
-    e: &Form,
+    test: Placed,
 ) -> Result<Result<Items<Stmt>, Fault>, OutOfMemory>
-    ensures told { IfOk result (λ r. r ≡ told (statement_made (R.rules rules.now) scope.now frame.now jumps here.old (switch_line place e.now clauses.now))) }
-    ensures grown { OnOk result (here.new ≡ statement_behind scope.now frame.now here.old (switch_line place e.now clauses.now)) }
+    ensures told { IfOk result (λ r. r ≡ told (statement_made (given_setting R.rules setting.now) jumps here.old (switch_line test.entry clauses.now))) }
+    ensures grown { OnOk result (here.new ≡ statement_behind (given_setting R.rules setting.now) here.old (switch_line test.entry clauses.now)) }
 {
     let n = here.number;
-    let value = tested_counted(alloc, rules, scope, here, place, e)?;
-    let at = tested_at(place, &value);
-    let jumps = clause_jumps(jumps);
-    match clauses_made(alloc, rules, scope, frame, jumps, here, at, clauses) {
+    let value = tested_counted(alloc, setting, here, test)?;
+    let at = tested_at(test.place, &value);
+    match clauses_made(alloc, setting, clause_jumps(jumps), here, at, clauses) {
         Ok(made) => Ok(switch_of(alloc, n, value, made)?),
         Err(error) => left_over(error, value),
     }
@@ -804,32 +688,24 @@ fn switch_made<R: Typing>(
 #[tactic(auto, using(mdr_faults::proofs::Gathered::followed_none))]
 fn clauses_made<R: Typing>(
     alloc: Global,
-    rules: &R,
-    scope: &Scope,
-    frame: &Frame,
+    setting: &Setting<R>,
     jumps: Jumps,
     here: &mut Here,
     at: Tested,
     clauses: &[Clause],
 ) -> Result<Result<Items<MadeClause>, Fault>, OutOfMemory>
-    ensures told { IfOk result (λ r. r ≡ told (clauses_made (R.rules rules.now) scope.now frame.now jumps here.old at [] (clauses_of clauses.now))) }
-    ensures grown { OnOk result (here.new ≡ clauses_behind scope.now frame.now here.old (clauses_of clauses.now)) }
+    ensures told { IfOk result (λ r. r ≡ told (clauses_made (given_setting R.rules setting.now) jumps here.old at [] (clauses_of clauses.now))) }
+    ensures grown { OnOk result (here.new ≡ clauses_behind setting.now.scope.now setting.now.frame.now here.old (clauses_of clauses.now)) }
 {
     let mut all = Ok(Items::new(alloc));
     let mut seen = Items::new(alloc);
     for i in 0..clauses.len() {
-        let made = clause(
-            alloc,
-            rules,
-            scope,
-            frame,
+        let standing = ClauseStanding {
+            tested: at,
             jumps,
-            here,
-            at,
-            &mut seen,
-            is_last_at(clauses, i),
-            &clauses[i],
-        )?;
+            is_last: is_last_at(clauses, i),
+        };
+        let made = clause(alloc, setting, standing, here, &mut seen, &clauses[i])?;
         all = followed(all, made)?;
     }
     Ok(all)
@@ -839,60 +715,30 @@ fn clauses_made<R: Typing>(
 #[cycle(line)]
 fn clause<R: Typing>(
     alloc: Global,
-    rules: &R,
-    scope: &Scope,
-    frame: &Frame,
-    jumps: Jumps,
+    setting: &Setting<R>,
+    standing: ClauseStanding,
     here: &mut Here,
-    at: Tested,
     seen: &mut Items<CaseLabel>,
-    is_last: bool,
     clause: &Clause,
 ) -> Result<Result<Items<MadeClause>, Fault>, OutOfMemory>
-    ensures told { IfOk result (λ r. r ≡ told (clause_made (R.rules rules.now) scope.now frame.now jumps here.old at seen.old is_last (clause_of clause.now))) }
-    ensures grown { OnOk result (here.new ≡ block_behind scope.now frame.now here.old (clause_of clause.now).1) }
-    ensures seen { OnOk result (seen.new ≡ labels_behind scope.now here.old.names at.kind seen.old (clause_of clause.now).0) }
+    ensures told { IfOk result (λ r. r ≡ told (clause_made (given_setting R.rules setting.now) standing here.old seen.old (clause_of clause.now))) }
+    ensures grown { OnOk result (here.new ≡ block_behind (given_setting R.rules setting.now) here.old (clause_of clause.now).1) }
+    ensures seen { OnOk result (seen.new ≡ labels_behind setting.now.scope.now here.old.names standing.tested.kind seen.old (clause_of clause.now).0) }
 {
-    labelled(
-        alloc,
-        rules,
-        scope,
-        frame,
-        jumps,
-        here,
-        at,
-        seen,
-        is_last,
-        clause.body.as_slice(),
-        clause.labels.as_slice(),
-    )
-}
-
-/// Labels, and the statements behind them.
-#[cycle(line)]
-fn labelled<R: Typing>(
-    alloc: Global,
-    rules: &R,
-    scope: &Scope,
-    frame: &Frame,
-    jumps: Jumps,
-    here: &mut Here,
-    at: Tested,
-    seen: &mut Items<CaseLabel>,
-    is_last: bool,
-    body: &[Node],
-    labels: &[Label],
-) -> Result<Result<Items<MadeClause>, Fault>, OutOfMemory>
-    ensures told { IfOk result (λ r. r ≡ told (clause_made (R.rules rules.now) scope.now frame.now jumps here.old at seen.old is_last (labels.now, lines_of body.now))) }
-    ensures grown { OnOk result (here.new ≡ block_behind scope.now frame.now here.old (lines_of body.now)) }
-    ensures seen { OnOk result (seen.new ≡ labels_behind scope.now here.old.names at.kind seen.old labels.now) }
-{
-    let first = labels_made(alloc, scope, here.names.as_slice(), at.kind, seen, labels)?;
-    let place = clause_place(at.place, labels);
+    let tested = standing.tested;
+    let labels = clause.labels.as_slice();
+    let names = here.names.as_slice();
+    let first = labels_made(alloc, setting.scope, names, tested.kind, seen, labels)?;
+    let place = clause_place(tested.place, labels);
     match ended_block(
-        alloc, rules, scope, frame, jumps, here, place, is_last, body,
+        alloc,
+        setting,
+        standing,
+        here,
+        place,
+        clause.body.as_slice(),
     ) {
-        Ok(second) => Ok(made_clause(alloc, at.kind, first, second)?),
+        Ok(second) => Ok(made_clause(alloc, tested.kind, first, second)?),
         Err(error) => left_over(error, first),
     }
 }
@@ -901,41 +747,37 @@ fn labelled<R: Typing>(
 #[cycle(line)]
 fn ended_block<R: Typing>(
     alloc: Global,
-    rules: &R,
-    scope: &Scope,
-    frame: &Frame,
-    jumps: Jumps,
+    setting: &Setting<R>,
+    standing: ClauseStanding,
     here: &mut Here,
     place: Place,
-    is_last: bool,
     body: &[Node],
 ) -> Result<Result<Items<Stmt>, Fault>, OutOfMemory>
-    ensures told { IfOk result (λ r. r ≡ told (ended_made (R.rules rules.now) scope.now frame.now jumps here.old place is_last (lines_of body.now))) }
-    ensures grown { OnOk result (here.new ≡ block_behind scope.now frame.now here.old (lines_of body.now)) }
+    ensures told { IfOk result (λ r. r ≡ told (ended_made (given_setting R.rules setting.now) standing here.old place (lines_of body.now))) }
+    ensures grown { OnOk result (here.new ≡ block_behind (given_setting R.rules setting.now) here.old (lines_of body.now)) }
 {
-    let made = block(alloc, rules, scope, frame, jumps, true, here, body)?;
-    Ok(demanded(place, FaultKind::Mismatch, ends(body, is_last), made))
+    let made = block(alloc, setting, standing.jumps, true, here, body)?;
+    let does_end = ends(body, standing.is_last);
+    Ok(demanded(place, FaultKind::Mismatch, does_end, made))
 }
 
 /// A block with names of its own.
 #[cycle(line)]
 fn block<R: Typing>(
     alloc: Global,
-    rules: &R,
-    scope: &Scope,
-    frame: &Frame,
+    setting: &Setting<R>,
     jumps: Jumps,
     is_part: bool,
     here: &mut Here,
     nodes: &[Node],
 ) -> Result<Result<Items<Stmt>, Fault>, OutOfMemory>
-    ensures told { IfOk result (λ r. r ≡ told (as_part is_part (block_made (R.rules rules.now) scope.now frame.now jumps here.old (lines_of nodes.now)))) }
-    ensures grown { OnOk result (here.new ≡ block_behind scope.now frame.now here.old (lines_of nodes.now)) }
+    ensures told { IfOk result (λ r. r ≡ told (as_part is_part (block_made (given_setting R.rules setting.now) jumps here.old (lines_of nodes.now)))) }
+    ensures grown { OnOk result (here.new ≡ block_behind (given_setting R.rules setting.now) here.old (lines_of nodes.now)) }
 {
     let names = here.names.len();
     let first = here.first;
     here.first = here.slot;
-    let made = lines(alloc, rules, scope, frame, jumps, here, nodes)?;
+    let made = lines(alloc, setting, jumps, here, nodes)?;
     leave(alloc, names, first, here);
     Ok(as_part(alloc, is_part, made)?)
 }
@@ -945,30 +787,18 @@ fn block<R: Typing>(
 #[tactic(auto, using(mdr_faults::proofs::Gathered::followed_none))]
 pub fn lines<R: Typing>(
     alloc: Global,
-    rules: &R,
-    scope: &Scope,
-    frame: &Frame,
+    setting: &Setting<R>,
     jumps: Jumps,
     here: &mut Here,
     nodes: &[Node],
 ) -> Result<Result<Items<Stmt>, Fault>, OutOfMemory>
-    ensures told { IfOk result (λ r. r ≡ told (lines_made (R.rules rules.now) scope.now frame.now jumps here.old (lines_of nodes.now))) }
-    ensures grown { OnOk result (here.new ≡ lines_behind scope.now frame.now here.old (lines_of nodes.now)) }
+    ensures told { IfOk result (λ r. r ≡ told (lines_made (given_setting R.rules setting.now) jumps here.old (lines_of nodes.now))) }
+    ensures grown { OnOk result (here.new ≡ lines_behind setting.now.scope.now setting.now.frame.now here.old (lines_of nodes.now)) }
 {
     let mut all = Ok(Items::new(alloc));
     for i in 0..nodes.len() {
         let n = &nodes[i];
-        let made = line(
-            alloc,
-            rules,
-            scope,
-            frame,
-            jumps_at(jumps, nodes, i),
-            false,
-            here,
-            taken_at(n, nodes, i),
-            n,
-        )?;
+        let made = line(alloc, setting, in_list(jumps, n, nodes, i), here, n)?;
         all = followed(all, made)?;
     }
     Ok(all)

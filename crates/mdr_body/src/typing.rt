@@ -1,8 +1,9 @@
 // The rules of what stands in statements: expressions, assignments and calls (C99 6.5).
 
-use mdr_core::{OutOfMemory, Place, Ty};
-use mdr_faults::{Fault, Scope};
-use mdr_operand::{LocalName, Operand};
+use crate::here::{Assignment, Known, Placed};
+use mdr_core::{OutOfMemory, Ty};
+use mdr_faults::Fault;
+use mdr_operand::Operand;
 use mdr_rich::{Lval, Step};
 use mdr_syntax::Form;
 use std::alloc::Global;
@@ -13,6 +14,7 @@ pub trait Typing {
     ghost use Rattle.mdr_faults.specs.Faults.{told};
     ghost use Rattle.mdr_operand.specs.Written.{written_of};
     ghost use Rattle.mdr_body.specs.Statements.{Rules};
+    ghost use Rattle.mdr_body.specs.Pieces.{assigned_by};
 
     ghost rules: { Self → Rules };
 
@@ -20,58 +22,47 @@ pub trait Typing {
     fn typed(
         &self,
         alloc: Global,
-        scope: &Scope,
-        names: &[LocalName],
+        known: Known,
         form: &Form,
     ) -> Result<Result<Operand, Fault>, OutOfMemory>
-        ensures { IfOk result (λ r. r ≡ told ((rules self.now).typed scope.now names.now (written_of form.now))) };
+        ensures { IfOk result (λ r. r ≡ told ((rules self.now).typed known.entry.scope.now known.entry.locals.now (written_of form.now))) };
 
-    /// An assignment, whose operator stands at this place.
+    /// An assignment.
     fn assigned(
         &self,
         alloc: Global,
-        scope: &Scope,
-        names: &[LocalName],
-        at: Place,
-        operator: &[u8],
-        left: &Form,
-        right: &Form,
+        known: Known,
+        assignment: Assignment,
     ) -> Result<Result<Step, Fault>, OutOfMemory>
-        ensures { IfOk result (λ r. r ≡ told ((rules self.now).assigned scope.now names.now at operator.now (written_of left.now) (written_of right.now))) };
+        ensures { IfOk result (λ r. r ≡ told (assigned_by (rules self.now) known.entry.scope.now known.entry.locals.now assignment.entry)) };
 
     /// A statement that is a call.
     fn called(
         &self,
         alloc: Global,
-        scope: &Scope,
-        names: &[LocalName],
+        known: Known,
         form: &Form,
     ) -> Result<Result<Step, Fault>, OutOfMemory>
-        ensures { IfOk result (λ r. r ≡ told ((rules self.now).called scope.now names.now (written_of form.now))) };
+        ensures { IfOk result (λ r. r ≡ told ((rules self.now).called known.entry.scope.now known.entry.locals.now (written_of form.now))) };
 
-    /// A value or a call's result, given to an object of this type as if by assignment. What doesn't suit is told at
-    /// the place.
+    /// A value or a call's result, given to an object of this type as if by assignment.
     fn stored(
         &self,
         alloc: Global,
-        scope: &Scope,
-        names: &[LocalName],
-        place: Place,
+        known: Known,
         object: Lval,
         ty: &Ty,
-        form: &Form,
+        value: Placed,
     ) -> Result<Result<Step, Fault>, OutOfMemory>
-        ensures { IfOk result (λ r. r ≡ told ((rules self.now).stored scope.now names.now place object ty.now (written_of form.now))) };
+        ensures { IfOk result (λ r. r ≡ told ((rules self.now).stored known.entry.scope.now known.entry.locals.now value.entry.place object ty.now (written_of value.entry.form.now))) };
 
     /// The same, given to the caller of a function that gives this type.
     fn returned(
         &self,
         alloc: Global,
-        scope: &Scope,
-        names: &[LocalName],
-        place: Place,
+        known: Known,
         ty: &Ty,
-        form: &Form,
+        value: Placed,
     ) -> Result<Result<Step, Fault>, OutOfMemory>
-        ensures { IfOk result (λ r. r ≡ told ((rules self.now).returned scope.now names.now place ty.now (written_of form.now))) };
+        ensures { IfOk result (λ r. r ≡ told ((rules self.now).returned known.entry.scope.now known.entry.locals.now value.entry.place ty.now (written_of value.entry.form.now))) };
 }

@@ -7,9 +7,9 @@ ghost use Rattle.mdr_faults.specs.Faults.{Checked, told, both};
 ghost use Rattle.mdr_operand.specs.Written.{lines_of};
 ghost use Rattle.mdr_body.specs.Uses.{first_use};
 ghost use Rattle.mdr_body.specs.Bodies.{declared_locals, frame_of, body_of, body_by, body_rule};
-ghost use Rattle.mdr_body.specs.Pieces.{body_in};
+ghost use Rattle.mdr_body.specs.Pieces.{given_setting, body_in};
 
-use crate::here::{DeclaredLocal, Frame, Here};
+use crate::here::{DeclaredLocal, Frame, Here, Setting};
 use crate::locals::{first_here, parameter_objects, struct_locks};
 use crate::statement::{lines, no_jumps};
 use crate::typing::Typing;
@@ -67,17 +67,15 @@ pub fn body_of(
 
 fn body_by<R: Typing>(
     alloc: Global,
-    rules: &R,
-    scope: &Scope,
-    frame: &Frame,
+    setting: &Setting<R>,
     here: Here,
     objects: Items<bool>,
     nodes: &[Node],
 ) -> Result<Result<Body, Fault>, OutOfMemory>
-    ensures { IfOk result (λ r. r ≡ told (body_by (R.rules rules.now) scope.now frame.now here objects (lines_of nodes.now))) }
+    ensures { IfOk result (λ r. r ≡ told (body_by (given_setting R.rules setting.now) here objects (lines_of nodes.now))) }
 {
     let mut here = here;
-    let made = lines(alloc, rules, scope, frame, no_jumps(), &mut here, nodes)?;
+    let made = lines(alloc, setting, no_jumps(), &mut here, nodes)?;
     let locals = declared_locals(alloc, here.locals)?;
     Ok(body_of(objects, locals, made))
 }
@@ -95,7 +93,12 @@ fn body_in<R: Typing>(
 {
     let objects = parameter_objects(alloc, nodes, h.params.as_slice())?;
     let here = first_here(alloc, scope, nodes, h.params.as_slice())?;
-    body_by(alloc, rules, scope, frame, here, objects, nodes)
+    let setting = Setting {
+        rules,
+        scope,
+        frame,
+    };
+    body_by(alloc, &setting, here, objects, nodes)
 }
 
 /// What a function's body comes to. The scope is that behind the function's name.

@@ -228,18 +228,25 @@ fn function_of(
     }
 }
 
+/// The definition of a function: its heading, whether it is critical, and its statements (C99 6.9.1).
+#[derive(Clone, Copy)]
+struct Definition<'a> {
+    head: &'a Head,
+    is_critical: bool,
+    statements: &'a [Node],
+}
+
 fn function<B: Bodies>(
     alloc: Global,
     bodies: &B,
     before: &[Item],
     known: &mut Known,
-    h: &Head,
-    is_critical: bool,
-    nodes: &[Node],
+    definition: Definition,
 ) -> Result<Result<Piece, Fault>, OutOfMemory>
-    ensures told { IfOk result (λ r. r ≡ told (function_piece (B.rule bodies.now) before.now known.old h.now is_critical nodes.now)) }
-    ensures grown { OnOk result (known.new ≡ behind_head known.old h.now) }
+    ensures told { IfOk result (λ r. r ≡ told (function_piece (B.rule bodies.now) before.now known.old definition.entry.head.now definition.entry.is_critical definition.entry.statements.now)) }
+    ensures grown { OnOk result (known.new ≡ behind_head known.old definition.entry.head.now) }
 {
+    let h = definition.head;
     let name = copied(alloc, h.name.as_slice())?;
     let heading = function_declared(
         alloc,
@@ -249,8 +256,8 @@ fn function<B: Bodies>(
         h,
         true,
     )?;
-    match bodies.body(alloc, &known.scope, h, nodes) {
-        Ok(body) => Ok(function_of(name, is_critical, heading, body)),
+    match bodies.body(alloc, &known.scope, h, definition.statements) {
+        Ok(body) => Ok(function_of(name, definition.is_critical, heading, body)),
         Err(error) => {
             drop(heading);
             Err(error)
@@ -279,15 +286,14 @@ fn item<B: Bodies>(
         ItemWhat::Enum(es) => Ok(enumeration(alloc, known, es.as_slice())?),
         ItemWhat::Global(d, init) => variable(alloc, known, d, init),
         ItemWhat::Proto(h, _) => prototype(alloc, before, known, h),
-        ItemWhat::Func(h, is_critical, nodes) => function(
-            alloc,
-            bodies,
-            before,
-            known,
-            h,
-            *is_critical,
-            nodes.as_slice(),
-        ),
+        ItemWhat::Func(h, is_critical, nodes) => {
+            let definition = Definition {
+                head: h,
+                is_critical: *is_critical,
+                statements: nodes.as_slice(),
+            };
+            function(alloc, bodies, before, known, definition)
+        }
     }
 }
 

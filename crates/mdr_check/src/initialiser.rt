@@ -750,26 +750,38 @@ fn placed_parts(
 {
     let mut all = Ok(Items::new(alloc));
     for i in 0..elems.len() {
-        let one = placed_part(alloc, scope, own, place, &elems[i], i, members)?;
+        let to = Aggregate {
+            members,
+            own,
+            place,
+        };
+        let one = placed_part(alloc, scope, to, &elems[i], i)?;
         all = extended(all, one)?;
     }
     Ok(all)
+}
+
+/// A struct that is initialised: its members, the number of the global that it lies in, and the place at which is told
+/// what doesn't suit.
+#[derive(Clone, Copy)]
+struct Aggregate<'a> {
+    members: &'a [Member],
+    own: u32,
+    place: Place,
 }
 
 #[cycle(initial)]
 fn placed_part(
     alloc: Global,
     scope: &Scope,
-    own: u32,
-    place: Place,
+    to: Aggregate,
     e: &Elem,
     j: usize,
-    members: &[Member],
 ) -> Result<Result<Placed, Fault>, AllocError>
-    ensures { IfOk result (λ r. r ≡ told (placed_by place members.now j (field_of e.now) (initial scope.now own place (out-Elem e.now).init))) }
+    ensures { IfOk result (λ r. r ≡ told (placed_by to.entry.place to.entry.members.now j (field_of e.now) (initial scope.now to.entry.own to.entry.place (out-Elem e.now).init))) }
 {
-    match part_number(place, members, j, &e.field) {
-        Ok(i) => placed_at(alloc, scope, own, place, e, i, members.get(i)),
+    match part_number(to.place, to.members, j, &e.field) {
+        Ok(i) => placed_at(alloc, scope, to, e, i),
         Err(fault) => Ok(Err(fault)),
     }
 }
@@ -778,19 +790,17 @@ fn placed_part(
 fn placed_at(
     alloc: Global,
     scope: &Scope,
-    own: u32,
-    place: Place,
+    to: Aggregate,
     e: &Elem,
     i: usize,
-    member: Option<&Member>,
 ) -> Result<Result<Placed, Fault>, AllocError>
-    ensures { IfOk result (λ r. r ≡ told (placed_at place i (initial scope.now own place (out-Elem e.now).init) (option_copied member.entry))) }
+    ensures { IfOk result (λ r. r ≡ told (placed_at to.entry.place i (initial scope.now to.entry.own to.entry.place (out-Elem e.now).init) (slice_get to.entry.members.now i))) }
 {
-    match member {
-        None => Ok(mismatch(place)),
+    match to.members.get(i) {
+        None => Ok(mismatch(to.place)),
         Some(m) => match &m.means {
             Ok(o) => {
-                let first = initial(alloc, scope, own, place, &e.init, o)?;
+                let first = initial(alloc, scope, to.own, to.place, &e.init, o)?;
                 Ok(placed_first(i, first))
             }
             Err(fault) => Ok(Err(*fault)),

@@ -37,6 +37,7 @@ use Rattle.mdr_body.specs.Labels.{labels_behind, labels_made}
 use Rattle.mdr_body.specs.Locals.{entered, first_here, is_own_object, is_taken, left, local_object, name_of, named_local, numbered, parameter_means, parameter_taken, parameters_from, with_local}
 use Rattle.mdr_body.specs.Addresses.{hides, is_declared_by}
 use Rattle.mdr_body.specs.Uses.{first_use, is_parameter, perhaps_use, use_along, use_at, use_in, use_in_clauses}
+use Rattle.mdr_body.specs.Statements.{setting_of, standing_of, tail_of, target_of}
 use Rattle.mdr_body.specs.Statements.{ForHead, appended, as_part, behind_head, block_of, clause_jumps, clauses_made, condition, declared_then, do_of, for_head, for_of, head_taken, heads_behind, heads_made, if_of, initial_by, initial_step, inner_jumps, is_single, jumps_before, line_behind, line_made, lines_behind, lines_made, local_made, loop_jumps, no_jumps, own_place, pair, perhaps_condition, perhaps_made, return_by, return_step, simple_behind, simple_made, single, some, steps_behind, steps_made, switch_of, tested, tested_at, tested_value, text_of, while_of}
 use Rattle.mdr_typing.specs.Profile.{assigned, called, profile_rules, returned, stored}
 use Rattle.mdr_sound.proofs.Rights.{after_right, both_right, chosen_right, demand_right, not_right, refused_right}
@@ -194,31 +195,31 @@ module _ (scope : Scope) (name : List ℕ) (gives : GivesNothing (entity_named s
 
   -- ---- declarations
 
-  initial_free : (names : List LocalName) (p : Place) (slot : ℕ) (t : Bool) (w : Written) (o : Option (List ℕ)) (object : Object) (s : Step) → local_named names name ≡ None → text_of w ≡ o → initial_by profile_rules scope names p slot t w o object ≡ Right s → use_in name w ≡ None
+  initial_free : (names : List LocalName) (p : Place) (slot : ℕ) (t : Bool) (w : Written) (o : Option (List ℕ)) (object : Object) (s : Step) → local_named names name ≡ None → text_of w ≡ o → initial_by (profile_rules.stored scope names) (target_of p slot t) w o object ≡ Right s → use_in name w ≡ None
   initial_free names p slot t w (Some bytes) object s f q e = text_free name w bytes q
   initial_free names p slot t w None object s f q e =
       let c = chosen_right (is_single object) (stored scope names p (own_place (is_own_object t object) slot object.ty) object.ty w) p Mismatch s e in
       stored_free scope name gives plain names f p (own_place (is_own_object t object) slot object.ty) object.ty w s c.right
 
-  local_free : (here : Here) (t : Bool) (d : Decl) (init : Option Written) (ss : List Stmt) → IsNamed d → IsFree here → local_made profile_rules scope frame here t d init ≡ Right ss → chosen (is_declared_by name d) None (perhaps_use name init) ≡ None
+  local_free : (here : Here) (t : Bool) (d : Decl) (init : Option Written) (ss : List Stmt) → IsNamed d → IsFree here → local_made (setting_of profile_rules scope frame) here t d init ≡ Right ss → chosen (is_declared_by name d) None (perhaps_use name init) ≡ None
   unfolding local_made initial_step
   local_free here t d None ss n f e = no_either (is_declared_by name d)
   local_free here t d (Some w) ss n f e =
-      let a = after_right (initial_step profile_rules scope frame here t d w) (declared_then here.number here.slot) ss e in
-      let b = after_right (local_object scope frame.locks d) (initial_by profile_rules scope (with_local scope frame.locks t d here).names (out-Decl d).place here.slot t w (text_of w)) a.value a.right in
+      let a = after_right (initial_step (setting_of profile_rules scope frame) here t d w) (declared_then here.number here.slot) ss e in
+      let b = after_right (local_object scope frame.locks d) (initial_by (profile_rules.stored scope (with_local scope frame.locks t d here).names) (target_of (out-Decl d).place here.slot t) w (text_of w)) a.value a.right in
       unless (is_declared_by name d) (use_in name w) (λ q. initial_free (with_local scope frame.locks t d here).names (out-Decl d).place here.slot t w (text_of w) b.value a.value (free_local here t d n q f) refl b.made)
 
   -- ---- statements without parts
 
-  return_free : (here : Here) (p : Place) (o : Option Written) (s : Step) → IsFree here → return_step profile_rules scope frame here p o ≡ Right s → perhaps_use name o ≡ None
+  return_free : (here : Here) (p : Place) (o : Option Written) (s : Step) → IsFree here → return_step (setting_of profile_rules scope frame) here p o ≡ Right s → perhaps_use name o ≡ None
   unfolding return_step
   return_free here p None s f e = refl
   return_free here p (Some w) s f e =
-      let a = after_right (again frame.result) (return_by profile_rules scope here p (Some w)) s e in
+      let a = after_right (again frame.result) (return_by (profile_rules.returned scope here.names) p (Some w)) s e in
       let r = refused_right (is_void a.value) (returned scope here.names p a.value w) p Mismatch s a.made in
       returned_free scope name gives plain here.names f p a.value w s r.right
 
-  simple_free : (jumps : Jumps) (here : Here) (t : Bool) (l : Line) (ss : List Stmt) → IsProper l → IsFree here → simple_made profile_rules scope frame jumps here t l ≡ Right ss → use_at name l ≡ None
+  simple_free : (jumps : Jumps) (here : Here) (t : Bool) (l : Line) (ss : List Stmt) → IsProper l → IsFree here → simple_made (setting_of profile_rules scope frame) jumps here t l ≡ Right ss → use_at name l ≡ None
   simple_free jumps here t (Line.Empty p) ss h f e = refl
   simple_free jumps here t (Line.Block p ls) ss h f e = not_right _ ss e
   simple_free jumps here t (Line.Local p d init) ss h f e = local_free here t d init ss h.0 f e
@@ -234,7 +235,7 @@ module _ (scope : Scope) (name : List ℕ) (gives : GivesNothing (entity_named s
   simple_free jumps here t (Line.Do p body c) ss h f e = not_right _ ss e
   simple_free jumps here t (Line.Switch p c cs) ss h f e = not_right _ ss e
   simple_free jumps here t (Line.Return p o) ss h f e =
-      let s = after_right (return_step profile_rules scope frame here p o) (single here.number) ss e in
+      let s = after_right (return_step (setting_of profile_rules scope frame) here p o) (single here.number) ss e in
       return_free here p o s.value f s.right
   simple_free jumps here t (Line.Break p) ss h f e = refl
   simple_free jumps here t (Line.Continue p) ss h f e = refl
@@ -270,29 +271,29 @@ module _ (scope : Scope) (name : List ℕ) (gives : GivesNothing (entity_named s
 
   -- ---- the head of a `for`
 
-  heads_free : (here : Here) (test : Option Written) (step : Lines) (body : Line) (ls : Lines) (ss : List Stmt) (behind : Option Place) → AreProper ls → IsFree here → (IsFree (heads_behind scope frame here test step body ls) → behind ≡ None)
-      → heads_made profile_rules scope frame here test step body ls ≡ Right ss → use_along name ls behind ≡ None
+  heads_free : (here : Here) (test : Option Written) (step : Lines) (body : Line) (ls : Lines) (ss : List Stmt) (behind : Option Place) → AreProper ls → IsFree here → (IsFree (heads_behind scope frame here (tail_of test step body) ls) → behind ≡ None)
+      → heads_made (setting_of profile_rules scope frame) here (tail_of test step body) ls ≡ Right ss → use_along name ls behind ≡ None
   unfolding heads_made heads_behind
   heads_free here test step body Lines.End ss behind h f k e = k f
   heads_free here test step body (Lines.Then l ls) ss behind h f k e =
-      let t : Bool = head_taken l ls test step body in
-      let b = both_right (simple_made profile_rules scope frame no_jumps here t l) (heads_made profile_rules scope frame (simple_behind scope frame here t l) test step body ls) appended ss e in
+      let t : Bool = head_taken l ls (tail_of test step body) in
+      let b = both_right (simple_made (setting_of profile_rules scope frame) no_jumps here t l) (heads_made (setting_of profile_rules scope frame) (simple_behind scope frame here t l) (tail_of test step body) ls) appended ss e in
       neither (use_at name l) (chosen (hides name l) None (use_along name ls behind)) (simple_free no_jumps here t l b.left h.0 f b.first)
       (unless (hides name l) (use_along name ls behind) (λ q. heads_free (simple_behind scope frame here t l) test step body ls b.right behind h.1 (free_simple here t l h.0 q f) k b.second))
 
-  steps_free : (here : Here) (ls : Lines) (ss : List Stmt) → AtMostOne ls → AreProper ls → IsFree here → steps_made profile_rules scope frame here ls ≡ Right ss → use_along name ls None ≡ None
+  steps_free : (here : Here) (ls : Lines) (ss : List Stmt) → AtMostOne ls → AreProper ls → IsFree here → steps_made (setting_of profile_rules scope frame) here ls ≡ Right ss → use_along name ls None ≡ None
   steps_free here Lines.End ss a h f e = refl
   steps_free here (Lines.Then l Lines.End) ss a h f e = neither (use_at name l) (chosen (hides name l) None None) (simple_free no_jumps here false l ss h.0 f e) (no_either (hides name l))
   steps_free here (Lines.Then l (Lines.Then m ls)) ss a h f e = absurd a
 
   for_free : (here : Here) (p : Place) (init : Lines) (test : Option Written) (step : Lines) (body : Line) (x : ForHead) → (AreProper init × (AreStatements step × AreProper step)) → AtMostOne step → IsFree here
-      → (IsFree (behind_head scope frame here init test step body) → use_at name body ≡ None)
-      → for_head profile_rules scope frame here p init test step body ≡ Right x → use_along name init (or_else (perhaps_use name test) (or_else (use_along name step None) (use_at name body))) ≡ None
+      → (IsFree (behind_head scope frame here init (tail_of test step body)) → use_at name body ≡ None)
+      → for_head (setting_of profile_rules scope frame) here p init (tail_of test step body) ≡ Right x → use_along name init (or_else (perhaps_use name test) (or_else (use_along name step None) (use_at name body))) ≡ None
   unfolding for_head behind_head
   for_free here p init test step body x h one f k e =
-      let there : Here = heads_behind scope frame here test step body init in
-      let outer = both_right (both (heads_made profile_rules scope frame here test step body init) (perhaps_condition profile_rules scope there p test) pair) (steps_made profile_rules scope frame there step) pair x e in
-      let inner = both_right (heads_made profile_rules scope frame here test step body init) (perhaps_condition profile_rules scope there p test) pair outer.left outer.first in
+      let there : Here = heads_behind scope frame here (tail_of test step body) init in
+      let outer = both_right (both (heads_made (setting_of profile_rules scope frame) here (tail_of test step body) init) (perhaps_condition profile_rules scope there p test) pair) (steps_made (setting_of profile_rules scope frame) there step) pair x e in
+      let inner = both_right (heads_made (setting_of profile_rules scope frame) here (tail_of test step body) init) (perhaps_condition profile_rules scope there p test) pair outer.left outer.first in
       heads_free here test step body init inner.left (or_else (perhaps_use name test) (or_else (use_along name step None) (use_at name body))) h.0 f
       (λ g. neither (perhaps_use name test) (or_else (use_along name step None) (use_at name body)) (perhaps_free there p test inner.right g inner.second)
       (neither (use_along name step None) (use_at name body) (steps_free there step outer.right one h.1.1 g outer.second) (k (free_steps there step h.1.0 g))))
@@ -305,63 +306,63 @@ module _ (scope : Scope) (name : List ℕ) (gives : GivesNothing (entity_named s
   part_comes false c ss e = let a = after_right c block_of ss e in (a.value, a.right)
 
   mutual
-    line_free : (jumps : Jumps) (is_part : Bool) (here : Here) (t : Bool) (l : Line) (ss : List Stmt) → IsProper l → IsWhole l → IsFree here → line_made profile_rules scope frame jumps is_part here t l ≡ Right ss → use_at name l ≡ None
+    line_free : (jumps : Jumps) (is_part : Bool) (here : Here) (t : Bool) (l : Line) (ss : List Stmt) → IsProper l → IsWhole l → IsFree here → line_made (setting_of profile_rules scope frame) (standing_of jumps is_part t) here l ≡ Right ss → use_at name l ≡ None
     line_free jumps is_part here t (Line.Empty p) ss h w f e = refl
     line_free jumps is_part here t (Line.Block p ls) ss h w f e =
-        let c = part_comes is_part (lines_made profile_rules scope frame (inner_jumps jumps) (entered here) ls) ss e in
+        let c = part_comes is_part (lines_made (setting_of profile_rules scope frame) (inner_jumps jumps) (entered here) ls) ss e in
         lines_free (inner_jumps jumps) (entered here) ls c.0 h w f c.1
     line_free jumps is_part here t (Line.Local p d init) ss h w f e = simple_free jumps here t (Line.Local p d init) ss h f e
     line_free jumps is_part here t (Line.Assign p at op a b) ss h w f e = simple_free jumps here t (Line.Assign p at op a b) ss h f e
     line_free jumps is_part here t (Line.Plain p v) ss h w f e = simple_free jumps here t (Line.Plain p v) ss h f e
     line_free jumps is_part here t (Line.If p c one other) ss h w f e =
         let there : Here = line_behind scope frame (numbered here) false one in
-        let outer = both_right (both (condition profile_rules scope here p c) (line_made profile_rules scope frame (inner_jumps jumps) true (numbered here) false one) pair) (perhaps_made profile_rules scope frame (inner_jumps jumps) there other) (if_of here.number) ss e in
-        let inner = both_right (condition profile_rules scope here p c) (line_made profile_rules scope frame (inner_jumps jumps) true (numbered here) false one) pair outer.left outer.first in
+        let outer = both_right (both (condition profile_rules scope here p c) (line_made (setting_of profile_rules scope frame) (standing_of (inner_jumps jumps) true false) (numbered here) one) pair) (perhaps_made (setting_of profile_rules scope frame) (inner_jumps jumps) there other) (if_of here.number) ss e in
+        let inner = both_right (condition profile_rules scope here p c) (line_made (setting_of profile_rules scope frame) (standing_of (inner_jumps jumps) true false) (numbered here) one) pair outer.left outer.first in
         neither (use_in name c) (or_else (use_at name one) (use_along name other None)) (condition_free here p c inner.left f inner.first)
         (neither (use_at name one) (use_along name other None) (line_free (inner_jumps jumps) true (numbered here) false one inner.right h.1.0.1 w.0 f inner.second)
         (others_free (inner_jumps jumps) there other outer.right h.1.1.1 w.1.0 w.1.1 (free_kept (numbered here) false one h.1.0.0 h.1.0.1 f) outer.second))
     line_free jumps is_part here t (Line.While p c body) ss h w f e =
-        let b = both_right (condition profile_rules scope here p c) (line_made profile_rules scope frame loop_jumps true (numbered here) false body) (while_of here.number) ss e in
+        let b = both_right (condition profile_rules scope here p c) (line_made (setting_of profile_rules scope frame) (standing_of loop_jumps true false) (numbered here) body) (while_of here.number) ss e in
         neither (use_in name c) (use_at name body) (condition_free here p c b.left f b.first) (line_free loop_jumps true (numbered here) false body b.right h.1.1 w f b.second)
     line_free jumps is_part here t (Line.For p init test step body) ss h w f e =
-        let there : Here = behind_head scope frame (entered here) init test step body in
-        let b = both_right (for_head profile_rules scope frame (entered here) p init test step body) (line_made profile_rules scope frame loop_jumps true there false body) (for_of here.number) ss e in
+        let there : Here = behind_head scope frame (entered here) init (tail_of test step body) in
+        let b = both_right (for_head (setting_of profile_rules scope frame) (entered here) p init (tail_of test step body)) (line_made (setting_of profile_rules scope frame) (standing_of loop_jumps true false) there body) (for_of here.number) ss e in
         for_free (entered here) p init test step body b.left (h.0.0, h.1.0) w.0 f (λ g. line_free loop_jumps true there false body b.right h.1.1.1 w.1 g b.second) b.first
     line_free jumps is_part here t (Line.Do p body c) ss h w f e =
         let there : Here = line_behind scope frame (numbered here) false body in
-        let b = both_right (line_made profile_rules scope frame loop_jumps true (numbered here) false body) (condition profile_rules scope there p c) (do_of here.number) ss e in
+        let b = both_right (line_made (setting_of profile_rules scope frame) (standing_of loop_jumps true false) (numbered here) body) (condition profile_rules scope there p c) (do_of here.number) ss e in
         neither (use_at name body) (use_in name c) (line_free loop_jumps true (numbered here) false body b.left h.0.1 w f b.first)
         (condition_free there p c b.right (free_kept (numbered here) false body h.0.0 h.0.1 f) b.second)
     line_free jumps is_part here t (Line.Switch p c cs) ss h w f e =
         let tested : Checked Integer = tested_value profile_rules scope here p c in
-        let b = both_right tested (clauses_made profile_rules scope frame (clause_jumps jumps) (numbered here) (tested_at p tested) [] cs) (switch_of here.number) ss e in
+        let b = both_right tested (clauses_made (setting_of profile_rules scope frame) (clause_jumps jumps) (numbered here) (tested_at p tested) [] cs) (switch_of here.number) ss e in
         neither (use_in name c) (use_in_clauses name cs) (tested_free here p c b.left f b.first) (clauses_free (clause_jumps jumps) (numbered here) (tested_at p tested) [] cs b.right h.1 w f b.second)
     line_free jumps is_part here t (Line.Return p o) ss h w f e = simple_free jumps here t (Line.Return p o) ss h f e
     line_free jumps is_part here t (Line.Break p) ss h w f e = refl
     line_free jumps is_part here t (Line.Continue p) ss h w f e = refl
 
-    others_free : (jumps : Jumps) (here : Here) (ls : Lines) (ss : List Stmt) → AreProper ls → AtMostOne ls → AreWhole ls → IsFree here → perhaps_made profile_rules scope frame jumps here ls ≡ Right ss → use_along name ls None ≡ None
+    others_free : (jumps : Jumps) (here : Here) (ls : Lines) (ss : List Stmt) → AreProper ls → AtMostOne ls → AreWhole ls → IsFree here → perhaps_made (setting_of profile_rules scope frame) jumps here ls ≡ Right ss → use_along name ls None ≡ None
     others_free jumps here Lines.End ss h a w f e = refl
     others_free jumps here (Lines.Then l Lines.End) ss h a w f e = neither (use_at name l) (chosen (hides name l) None None) (line_free jumps true here false l ss h.0 w.0 f e) (no_either (hides name l))
     others_free jumps here (Lines.Then l (Lines.Then m ls)) ss h a w f e = absurd a
 
-    lines_free : (jumps : Jumps) (here : Here) (ls : Lines) (ss : List Stmt) → AreProper ls → AreWhole ls → IsFree here → lines_made profile_rules scope frame jumps here ls ≡ Right ss → use_along name ls None ≡ None
+    lines_free : (jumps : Jumps) (here : Here) (ls : Lines) (ss : List Stmt) → AreProper ls → AreWhole ls → IsFree here → lines_made (setting_of profile_rules scope frame) jumps here ls ≡ Right ss → use_along name ls None ≡ None
     lines_free jumps here Lines.End ss h w f e = refl
     lines_free jumps here (Lines.Then l ls) ss h w f e =
         let t : Bool = is_taken l ls in
-        let b = both_right (line_made profile_rules scope frame (jumps_before jumps ls) false here t l) (lines_made profile_rules scope frame jumps (line_behind scope frame here t l) ls) appended ss e in
+        let b = both_right (line_made (setting_of profile_rules scope frame) (standing_of (jumps_before jumps ls) false t) here l) (lines_made (setting_of profile_rules scope frame) jumps (line_behind scope frame here t l) ls) appended ss e in
         neither (use_at name l) (chosen (hides name l) None (use_along name ls None)) (line_free (jumps_before jumps ls) false here t l b.left h.0 w.0 f b.first)
         (unless (hides name l) (use_along name ls None) (λ q. lines_free jumps (line_behind scope frame here t l) ls b.right h.1 w.1 (free_line here t l h.0 q f) b.second))
 
     -- each clause in front of those behind it
-    clauses_free : (jumps : Jumps) (here : Here) (at : Tested) (seen : List CaseLabel) (cs : Clauses) (ms : List MadeClause) → AreProperClauses cs → AreWholeClauses cs → IsFree here → clauses_made profile_rules scope frame jumps here at seen cs ≡ Right ms → use_in_clauses name cs ≡ None
+    clauses_free : (jumps : Jumps) (here : Here) (at : Tested) (seen : List CaseLabel) (cs : Clauses) (ms : List MadeClause) → AreProperClauses cs → AreWholeClauses cs → IsFree here → clauses_made (setting_of profile_rules scope frame) jumps here at seen cs ≡ Right ms → use_in_clauses name cs ≡ None
     clauses_free jumps here at seen Clauses.NoPart ms h w f e = refl
     clauses_free jumps here at seen (Clauses.Part labels ls cs) ms h w f e =
         let there : Here = left here (lines_behind scope frame (entered here) ls) in
-        let made = lines_made profile_rules scope frame jumps (entered here) ls in
+        let made = lines_made (setting_of profile_rules scope frame) jumps (entered here) ls in
         let checked = labels_made scope here.names at.kind seen labels in
         let body = demand (clause_place at.place labels) Mismatch (ends ls (is_last cs)) made in
-        let all = both_right (both checked body (made_clause at.kind)) (clauses_made profile_rules scope frame jumps there at (labels_behind scope here.names at.kind seen labels) cs) appended ms e in
+        let all = both_right (both checked body (made_clause at.kind)) (clauses_made (setting_of profile_rules scope frame) jumps there at (labels_behind scope here.names at.kind seen labels) cs) appended ms e in
         let own = both_right checked body (made_clause at.kind) all.left all.first in
         let right = demand_right (clause_place at.place labels) Mismatch (ends ls (is_last cs)) made own.right own.second in
         neither (use_along name ls None) (use_in_clauses name cs) (lines_free jumps (entered here) ls own.right h.0.1 w.0 f right.right)
@@ -395,5 +396,5 @@ bodies_free scope h nodes b name n proper gives plain e =
     let ls : Lines = lines_of nodes in
     let frame : Frame = frame_of scope h in
     let here : Here = first_here scope ls h.params in
-    let c = both_right (declared_locals (lines_behind scope frame here ls).locals) (lines_made profile_rules scope frame no_jumps here ls) (body_of (map (parameter_taken ls) h.params)) b e in
+    let c = both_right (declared_locals (lines_behind scope frame here ls).locals) (lines_made (setting_of profile_rules scope frame) no_jumps here ls) (body_of (map (parameter_taken ls) h.params)) b e in
     unless (is_parameter h.params name) (use_along name ls None) (λ q. lines_free scope name gives plain frame no_jumps here ls c.right proper (nodes_whole nodes) (first_free scope name ls h.params n q) c.second)

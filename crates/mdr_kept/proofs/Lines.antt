@@ -30,6 +30,7 @@ use Rattle.mdr_body.specs.Clauses.{clause_place, ends, is_last, made_clause, no_
 use Rattle.mdr_body.specs.Labels.{labels_made, labels_behind}
 use Rattle.mdr_body.specs.Locals.{is_taken, entered, left, numbered}
 use Rattle.mdr_body.specs.Addresses.{takes_in, perhaps_takes, takes_at, takes_along, clauses_take}
+use Rattle.mdr_body.specs.Statements.{setting_of, standing_of, tail_of}
 use Rattle.mdr_body.specs.Statements.{Rules, stmt, condition, perhaps_condition, appended, pair, head_taken, simple_made, simple_behind, heads_made, heads_behind, steps_made, steps_behind, for_head, behind_head, no_jumps, inner_jumps, loop_jumps, clause_jumps, jumps_before, block_of, as_part, if_of, while_of, for_of, do_of, switch_of, tested_value, tested_at, line_behind, perhaps_behind, lines_behind, clauses_behind, line_made, perhaps_made, lines_made, clauses_made}
 use Rattle.mdr_sound.proofs.Rights.{same_right, after_right, both_right, demand_right}
 use Rattle.mdr_sound.specs.Rules.{IsRight, AreSoundRules}
@@ -133,30 +134,30 @@ module _ (program : Program) (slots : List Slot) (base : ℕ) (scope : Scope) (f
 
   -- ---- the head of a `for`
 
-  heads_leave : (here : Here) (objects : List ℕ) (test : Option Written) (next : Lines) (body : Line) (ls : Lines) (ss : List Stmt) → Live here objects → IsHere program slots base here (λ n. takes_along n ls (tail test next body n)) → AreProper ls → AreDeclared slots base (heads_behind scope frame here test next body ls).locals → heads_made rules scope frame here test next body ls ≡ Right ss → Leaves slots (heads_behind scope frame here test next body ls) objects false ss
+  heads_leave : (here : Here) (objects : List ℕ) (test : Option Written) (next : Lines) (body : Line) (ls : Lines) (ss : List Stmt) → Live here objects → IsHere program slots base here (λ n. takes_along n ls (tail test next body n)) → AreProper ls → AreDeclared slots base (heads_behind scope frame here (tail_of test next body) ls).locals → heads_made (setting_of rules scope frame) here (tail_of test next body) ls ≡ Right ss → Leaves slots (heads_behind scope frame here (tail_of test next body) ls) objects false ss
   unfolding heads_behind heads_made
   heads_leave here objects test next body Lines.End ss live h proper declared e = leaves_none slots here objects false ss live e
   heads_leave here objects test next body (Lines.Then l ls) ss live h proper declared e =
-      let t = head_taken l ls test next body in
+      let t = head_taken l ls (tail_of test next body) in
       let there : Here = simple_behind scope frame here t l in
       let rest : List ℕ → Bool = λ n. takes_along n ls (tail test next body n) in
-      let first = declared_before slots base there.locals (heads_behind scope frame there test next body ls).locals _ (heads_grow scope frame there test next body ls).locals_are declared in
-      let parts = both_right (simple_made rules scope frame no_jumps here t l) (heads_made rules scope frame there test next body ls) appended ss e in
+      let first = declared_before slots base there.locals (heads_behind scope frame there (tail_of test next body) ls).locals _ (heads_grow scope frame there test next body ls).locals_are declared in
+      let parts = both_right (simple_made (setting_of rules scope frame) no_jumps here t l) (heads_made (setting_of rules scope frame) there (tail_of test next body) ls) appended ss e in
       let one = simple_leaves program slots base scope frame known rules sound plain result gives given here objects no_jumps t l rest parts.left live h proper.0 (told_head l ls test next body) first parts.first in
-      leaves_both slots there (heads_behind scope frame there test next body ls) objects parts.left parts.right ss one
+      leaves_both slots there (heads_behind scope frame there (tail_of test next body) ls) objects parts.left parts.right ss one
       (λ more. heads_leave there (behinds slots objects (codes_of parts.left)) test next body ls parts.right more (simple_here program slots base scope frame known here t l rest h proper.0 (told_head l ls test next body) first) proper.1 declared parts.second)
       parts.made
 
-  steps_scoped : (here : Here) (objects : List ℕ) (ls : Lines) (ss : List Stmt) → Live here objects → IsHere program slots base here (λ n. takes_along n ls false) → AreStatements ls → AreProper ls → AreDeclared slots base (steps_behind scope frame here ls).locals → steps_made rules scope frame here ls ≡ Right ss → CodesScoped slots objects (codes_of ss)
+  steps_scoped : (here : Here) (objects : List ℕ) (ls : Lines) (ss : List Stmt) → Live here objects → IsHere program slots base here (λ n. takes_along n ls false) → AreStatements ls → AreProper ls → AreDeclared slots base (steps_behind scope frame here ls).locals → steps_made (setting_of rules scope frame) here ls ≡ Right ss → CodesScoped slots objects (codes_of ss)
   steps_scoped here objects Lines.End ss live h s proper declared e = subst (λ xs. CodesScoped slots objects (codes_of xs)) (same_right [] ss e) tt
   steps_scoped here objects (Lines.Then l ls) ss live h s proper declared e =
       (simple_leaves program slots base scope frame known rules sound plain result gives given here objects no_jumps false l (λ n. takes_along n ls false) ss live h proper.0 (told_none false l (λ n. takes_along n ls false) s.0) declared e).scoped
 
   -- behind the head
-  head_live : (here : Here) (objects : List ℕ) (init : Lines) (test : Option Written) (next : Lines) (body : Line) → AreStatements next → Live (heads_behind scope frame here test next body init) objects → Live (behind_head scope frame here init test next body) objects
+  head_live : (here : Here) (objects : List ℕ) (init : Lines) (test : Option Written) (next : Lines) (body : Line) → AreStatements next → Live (heads_behind scope frame here (tail_of test next body) init) objects → Live (behind_head scope frame here init (tail_of test next body)) objects
   unfolding behind_head
   head_live here objects init test next body s live =
-      let b : Here = heads_behind scope frame here test next body init in
+      let b : Here = heads_behind scope frame here (tail_of test next body) init in
       live_numbered (steps_behind scope frame b next) objects (subst (λ x. Live x objects) (sym (steps_same scope frame b next s)) live)
 
   -- ---- statements with parts, over those of their parts
@@ -205,12 +206,12 @@ module _ (program : Program) (slots : List Slot) (base : ℕ) (scope : Scope) (f
       (switch_still slots objects n parts.left.value parts.right (t parts.left parts.first) (h parts.right parts.second))
       parts.made
 
-  for_leaves : (there here : Here) (objects : List ℕ) (is_part : Bool) (p : Place) (init : Lines) (test : Option Written) (next : Lines) (body : Line) (n : ℕ) (c : Checked (List Stmt)) (ss : List Stmt) → Live there objects → Live here objects → IsHere program slots base here (λ m. takes_along m init (tail test next body m)) → AreProper init → PerhapsHasNumbers test → AreStatements next → AreProper next → AreDeclared slots base (line_behind scope frame (behind_head scope frame here init test next body) false body).locals → ((more : List ℕ) → Live (heads_behind scope frame here test next body init) more → PartScoped more c) → both (for_head rules scope frame here p init test next body) c (for_of n) ≡ Right ss → Leaves slots there objects is_part ss
+  for_leaves : (there here : Here) (objects : List ℕ) (is_part : Bool) (p : Place) (init : Lines) (test : Option Written) (next : Lines) (body : Line) (n : ℕ) (c : Checked (List Stmt)) (ss : List Stmt) → Live there objects → Live here objects → IsHere program slots base here (λ m. takes_along m init (tail test next body m)) → AreProper init → PerhapsHasNumbers test → AreStatements next → AreProper next → AreDeclared slots base (line_behind scope frame (behind_head scope frame here init (tail_of test next body)) false body).locals → ((more : List ℕ) → Live (heads_behind scope frame here (tail_of test next body) init) more → PartScoped more c) → both (for_head (setting_of rules scope frame) here p init (tail_of test next body)) c (for_of n) ≡ Right ss → Leaves slots there objects is_part ss
   for_leaves there here objects is_part p init test next body n c ss live inside_live h proper numbers statements steps declared k e =
-      let all = both_right (for_head rules scope frame here p init test next body) c (for_of n) ss e in
+      let all = both_right (for_head (setting_of rules scope frame) here p init (tail_of test next body)) c (for_of n) ss e in
       let head = head_right rules scope frame here p init test next body all.left all.first in
       let declared_first = head_declared program slots base scope frame known here init test next body statements declared in
-      let behind : Here = heads_behind scope frame here test next body init in
+      let behind : Here = heads_behind scope frame here (tail_of test next body) init in
       let inside = heads_here program slots base scope frame known here test next body init h proper declared_first in
       let tested = perhaps_right program slots base scope frame known rules (sound slots) result behind (tail test next body) test inside (λ m q. or_left (perhaps_takes m test) (takes_along m next false || takes_at m body) q) numbers in
       let before_step = here_less program slots base behind (tail test next body) (λ m. takes_along m next false) inside (λ m q. or_left (takes_along m next false) (takes_at m body) (or_right (perhaps_takes m test) (takes_along m next false || takes_at m body) q)) in
@@ -228,11 +229,11 @@ module _ (program : Program) (slots : List Slot) (base : ℕ) (scope : Scope) (f
   -- ---- all statements
 
   mutual
-    pub line_leaves : (here : Here) (objects : List ℕ) (jumps : Jumps) (is_part t : Bool) (l : Line) (rest : List ℕ → Bool) (ss : List Stmt) → Live here objects → IsHere program slots base here (in_front l rest) → IsProper l → IsTold t l rest → AreDeclared slots base (line_behind scope frame here t l).locals → line_made rules scope frame jumps is_part here t l ≡ Right ss → Leaves slots (line_behind scope frame here t l) objects is_part ss
+    pub line_leaves : (here : Here) (objects : List ℕ) (jumps : Jumps) (is_part t : Bool) (l : Line) (rest : List ℕ → Bool) (ss : List Stmt) → Live here objects → IsHere program slots base here (in_front l rest) → IsProper l → IsTold t l rest → AreDeclared slots base (line_behind scope frame here t l).locals → line_made (setting_of rules scope frame) (standing_of jumps is_part t) here l ≡ Right ss → Leaves slots (line_behind scope frame here t l) objects is_part ss
     line_leaves here objects jumps is_part t (Line.Block p ls) rest ss live h proper told declared e =
         let inside = here_entered program slots base here (λ n. takes_along n ls false) (here_less program slots base here _ (λ n. takes_along n ls false) h (λ name q. or_left (takes_along name ls false) (rest name) q)) in
         let there : Here = line_behind scope frame here t (Line.Block p ls) in
-        part_leaves there objects is_part (lines_made rules scope frame (inner_jumps jumps) (entered here) ls) ss
+        part_leaves there objects is_part (lines_made (setting_of rules scope frame) (inner_jumps jumps) (entered here) ls) ss
         (live_same here there objects (line_grows scope frame here t (Line.Block p ls)) (names_keep scope frame here t (Line.Block p ls) refl proper) live)
         (λ xs q. (lines_leave (entered here) objects (inner_jumps jumps) ls xs (live_entered here objects live) inside proper declared q).scoped) e
     line_leaves here objects jumps is_part t (Line.If p w one other) rest ss live h proper told declared e =
@@ -245,7 +246,7 @@ module _ (program : Program) (slots : List Slot) (base : ℕ) (scope : Scope) (f
         let declared_first = declared_before slots base b.locals (perhaps_behind scope frame b other).locals _ (perhaps_grow scope frame b other).locals_are declared in
         let right = written_right program slots base scope frame known rules (sound slots) result here _ w all (λ name q. or_left (takes_in name w) _ q) proper.0 in
         let live_part = live_numbered here objects live in
-        if_leaves there objects is_part here.number (condition rules scope here p w) (line_made rules scope frame (inner_jumps jumps) true (numbered here) false one) (perhaps_made rules scope frame (inner_jumps jumps) b other) ss
+        if_leaves there objects is_part here.number (condition rules scope here p w) (line_made (setting_of rules scope frame) (standing_of (inner_jumps jumps) true false) (numbered here) one) (perhaps_made (setting_of rules scope frame) (inner_jumps jumps) b other) ss
         (live_same here there objects (line_grows scope frame here t (Line.If p w one other)) (names_keep scope frame here t (Line.If p w one other) refl proper) live)
         (λ x q. condition_scoped here objects p w _ x live all right q)
         (λ xs q. (line_leaves (numbered here) objects (inner_jumps jumps) true false one (λ n. false) xs live_part first proper.1.0.1 (told_none false one (λ n. false) proper.1.0.0) declared_first q).scoped)
@@ -256,7 +257,7 @@ module _ (program : Program) (slots : List Slot) (base : ℕ) (scope : Scope) (f
         let all = here_less program slots base here _ (λ n. takes_in n w || takes_at n body) h (λ name q. or_left (takes_in name w || takes_at name body) (rest name) q) in
         let inside = here_numbered program slots base here _ (here_less program slots base here _ (in_front body (λ n. false)) all (λ name q. front_of_none body name (or_right (takes_in name w) (takes_at name body) q))) in
         let right = written_right program slots base scope frame known rules (sound slots) result here _ w all (λ name q. or_left (takes_in name w) _ q) proper.0 in
-        while_leaves there objects is_part here.number (condition rules scope here p w) (line_made rules scope frame loop_jumps true (numbered here) false body) ss
+        while_leaves there objects is_part here.number (condition rules scope here p w) (line_made (setting_of rules scope frame) (standing_of loop_jumps true false) (numbered here) body) ss
         (live_same here there objects (line_grows scope frame here t (Line.While p w body)) (names_keep scope frame here t (Line.While p w body) refl proper) live)
         (λ x q. condition_scoped here objects p w _ x live all right q)
         (λ xs q. (line_leaves (numbered here) objects loop_jumps true false body (λ n. false) xs (live_numbered here objects live) inside proper.1.1 (told_none false body (λ n. false) proper.1.0) declared q).scoped)
@@ -265,9 +266,9 @@ module _ (program : Program) (slots : List Slot) (base : ℕ) (scope : Scope) (f
         let there : Here = line_behind scope frame here t (Line.For p init test next body) in
         let all = here_entered program slots base here _ (here_less program slots base here _ (λ n. takes_along n init (tail test next body n)) h (λ name q. or_left (takes_along name init (tail test next body name)) (rest name) q)) in
         let first = heads_here program slots base scope frame known (entered here) test next body init all proper.0.0 (head_declared program slots base scope frame known (entered here) init test next body proper.1.0.0 declared) in
-        let b : Here = behind_head scope frame (entered here) init test next body in
+        let b : Here = behind_head scope frame (entered here) init (tail_of test next body) in
         let inside = here_less program slots base b (tail test next body) (in_front body (λ n. false)) (head_here program slots base scope frame known (entered here) init test next body first proper.1.0.0) (λ name q. front_of_none body name (or_right (takes_along name next false) (takes_at name body) (or_right (perhaps_takes name test) (takes_along name next false || takes_at name body) q))) in
-        for_leaves there (entered here) objects is_part p init test next body here.number (line_made rules scope frame loop_jumps true b false body) ss
+        for_leaves there (entered here) objects is_part p init test next body here.number (line_made (setting_of rules scope frame) (standing_of loop_jumps true false) b body) ss
         (live_same here there objects (line_grows scope frame here t (Line.For p init test next body)) (names_keep scope frame here t (Line.For p init test next body) refl proper) live)
         (live_entered here objects live) all proper.0.0 proper.0.1 proper.1.0.0 proper.1.0.1 declared
         (λ more live_behind xs q. (line_leaves b more loop_jumps true false body (λ n. false) xs (head_live (entered here) more init test next body proper.1.0.0 live_behind) inside proper.1.1.1 (told_none false body (λ n. false) proper.1.1.0) declared q).scoped)
@@ -280,7 +281,7 @@ module _ (program : Program) (slots : List Slot) (base : ℕ) (scope : Scope) (f
         let behind_it = part_here program slots base scope frame known (numbered here) body (λ n. takes_in n w) (here_less program slots base (numbered here) _ (λ n. takes_in n w) parts (λ name q. or_right (takes_at name body) (takes_in name w) q)) proper.0.0 proper.0.1 in
         let right = written_right program slots base scope frame known rules (sound slots) result there _ w behind_it (λ name q. q) proper.1 in
         let live_there = part_live (numbered here) body objects (live_numbered here objects live) proper.0.0 proper.0.1 in
-        do_leaves there objects is_part here.number (line_made rules scope frame loop_jumps true (numbered here) false body) (condition rules scope there p w) ss live_there
+        do_leaves there objects is_part here.number (line_made (setting_of rules scope frame) (standing_of loop_jumps true false) (numbered here) body) (condition rules scope there p w) ss live_there
         (λ xs q. (line_leaves (numbered here) objects loop_jumps true false body (λ n. false) xs (live_numbered here objects live) inside proper.0.1 (told_none false body (λ n. false) proper.0.0) declared q).scoped)
         (λ x q. condition_scoped there objects p w _ x live_there behind_it right q)
         e
@@ -290,7 +291,7 @@ module _ (program : Program) (slots : List Slot) (base : ℕ) (scope : Scope) (f
         let all = here_less program slots base here _ (λ n. takes_in n w || clauses_take n cs) h (λ name q. or_left (takes_in name w || clauses_take name cs) (rest name) q) in
         let inside = here_numbered program slots base here _ (here_less program slots base here _ (λ n. clauses_take n cs) all (λ name q. or_right (takes_in name w) (clauses_take name cs) q)) in
         let right = written_right program slots base scope frame known rules (sound slots) result here _ w all (λ name q. or_left (takes_in name w) _ q) proper.0 in
-        switch_leaves there objects is_part here.number tested (clauses_made rules scope frame (clause_jumps jumps) (numbered here) (tested_at p tested) [] cs) ss
+        switch_leaves there objects is_part here.number tested (clauses_made (setting_of rules scope frame) (clause_jumps jumps) (numbered here) (tested_at p tested) [] cs) ss
         (live_same here there objects (line_grows scope frame here t (Line.Switch p w cs)) (names_keep scope frame here t (Line.Switch p w cs) refl proper) live)
         (λ v q. value_scoped here objects p w _ v live all right q)
         (λ ms q. clauses_leave (numbered here) objects (clause_jumps jumps) (tested_at p tested) [] cs ms (live_numbered here objects live) inside proper.1 declared q)
@@ -298,18 +299,18 @@ module _ (program : Program) (slots : List Slot) (base : ℕ) (scope : Scope) (f
     line_leaves here objects jumps is_part t l rest ss live h proper told declared e =
         numbered_leaves slots (simple_behind scope frame here t l) objects is_part ss (simple_leaves program slots base scope frame known rules sound plain result gives given here objects jumps t l rest ss live h proper told declared e)
 
-    pub perhaps_scoped : (here : Here) (objects : List ℕ) (jumps : Jumps) (ls : Lines) (ss : List Stmt) → Live here objects → IsHere program slots base here (λ n. takes_along n ls false) → AreStatements ls → AreProper ls → AreDeclared slots base (perhaps_behind scope frame here ls).locals → perhaps_made rules scope frame jumps here ls ≡ Right ss → CodesScoped slots objects (codes_of ss)
+    pub perhaps_scoped : (here : Here) (objects : List ℕ) (jumps : Jumps) (ls : Lines) (ss : List Stmt) → Live here objects → IsHere program slots base here (λ n. takes_along n ls false) → AreStatements ls → AreProper ls → AreDeclared slots base (perhaps_behind scope frame here ls).locals → perhaps_made (setting_of rules scope frame) jumps here ls ≡ Right ss → CodesScoped slots objects (codes_of ss)
     perhaps_scoped here objects jumps Lines.End ss live h s proper declared e = subst (λ xs. CodesScoped slots objects (codes_of xs)) (same_right [] ss e) tt
     perhaps_scoped here objects jumps (Lines.Then l ls) ss live h s proper declared e = (line_leaves here objects jumps true false l (λ n. takes_along n ls false) ss live h proper.0 (told_none false l (λ n. takes_along n ls false) s.0) declared e).scoped
 
-    pub lines_leave : (here : Here) (objects : List ℕ) (jumps : Jumps) (ls : Lines) (ss : List Stmt) → Live here objects → IsHere program slots base here (λ n. takes_along n ls false) → AreProper ls → AreDeclared slots base (lines_behind scope frame here ls).locals → lines_made rules scope frame jumps here ls ≡ Right ss → Leaves slots (lines_behind scope frame here ls) objects false ss
+    pub lines_leave : (here : Here) (objects : List ℕ) (jumps : Jumps) (ls : Lines) (ss : List Stmt) → Live here objects → IsHere program slots base here (λ n. takes_along n ls false) → AreProper ls → AreDeclared slots base (lines_behind scope frame here ls).locals → lines_made (setting_of rules scope frame) jumps here ls ≡ Right ss → Leaves slots (lines_behind scope frame here ls) objects false ss
     lines_leave here objects jumps Lines.End ss live h proper declared e = leaves_none slots here objects false ss live e
     lines_leave here objects jumps (Lines.Then l ls) ss live h proper declared e =
         let t = is_taken l ls in
         let b : Here = line_behind scope frame here t l in
         let first = declared_before slots base b.locals (lines_behind scope frame b ls).locals _ (lines_grow scope frame b ls).locals_are declared in
         let next = line_here program slots base scope frame known here t l (λ n. takes_along n ls false) h proper.0 (told_line l ls) first in
-        let parts = both_right (line_made rules scope frame (jumps_before jumps ls) false here t l) (lines_made rules scope frame jumps b ls) appended ss e in
+        let parts = both_right (line_made (setting_of rules scope frame) (standing_of (jumps_before jumps ls) false t) here l) (lines_made (setting_of rules scope frame) jumps b ls) appended ss e in
         leaves_both slots b (lines_behind scope frame b ls) objects parts.left parts.right ss
         (line_leaves here objects (jumps_before jumps ls) false t l (λ n. takes_along n ls false) parts.left live h proper.0 (told_line l ls) first parts.first)
         (λ more. lines_leave b (behinds slots objects (codes_of parts.left)) jumps ls parts.right more next proper.1 declared parts.second)
@@ -317,7 +318,7 @@ module _ (program : Program) (slots : List Slot) (base : ℕ) (scope : Scope) (f
 
     -- each clause in front of those behind it
     pub clauses_leave : (here : Here) (objects : List ℕ) (jumps : Jumps) (at : Tested) (seen : List CaseLabel) (cs : Clauses) (ms : List MadeClause) → Live here objects → IsHere program slots base here (λ n. clauses_take n cs) → AreProperClauses cs → AreDeclared slots base (clauses_behind scope frame here cs).locals
-        → clauses_made rules scope frame jumps here at seen cs ≡ Right ms → MadeScoped slots objects ms
+        → clauses_made (setting_of rules scope frame) jumps here at seen cs ≡ Right ms → MadeScoped slots objects ms
     clauses_leave here objects jumps at seen Clauses.NoPart ms live h proper declared e = subst (MadeScoped slots objects) (same_right [] ms e) tt
     clauses_leave here objects jumps at seen (Clauses.Part labels ls cs) ms live h proper declared e =
         let inner : Here = lines_behind scope frame (entered here) ls in
@@ -329,10 +330,10 @@ module _ (program : Program) (slots : List Slot) (base : ℕ) (scope : Scope) (f
         let same = left_keeps here inner grown in
         let next = here_same program slots base here there (λ n. clauses_take n cs) grows same rest in
         let first = declared_before slots base inner.locals (clauses_behind scope frame there cs).locals _ (clauses_grow scope frame there cs).locals_are declared in
-        let made = lines_made rules scope frame jumps (entered here) ls in
+        let made = lines_made (setting_of rules scope frame) jumps (entered here) ls in
         let checked = labels_made scope here.names at.kind seen labels in
         let body = demand (clause_place at.place labels) Mismatch (ends ls (is_last cs)) made in
-        let all = both_right (both checked body (made_clause at.kind)) (clauses_made rules scope frame jumps there at (labels_behind scope here.names at.kind seen labels) cs) appended ms e in
+        let all = both_right (both checked body (made_clause at.kind)) (clauses_made (setting_of rules scope frame) jumps there at (labels_behind scope here.names at.kind seen labels) cs) appended ms e in
         let own = both_right checked body (made_clause at.kind) all.left all.first in
         let right = demand_right (clause_place at.place labels) Mismatch (ends ls (is_last cs)) made own.right own.second in
         let one = lines_leave (entered here) objects jumps ls own.right (live_entered here objects live) (here_entered program slots base here _ parts) proper.0.1 first right.right in

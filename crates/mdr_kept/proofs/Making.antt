@@ -25,7 +25,7 @@ use Rattle.mdr_operand.specs.Written.{Lines, lines_of}
 use Rattle.mdr_body.specs.declared.here.Here.{Here}
 use Rattle.mdr_body.specs.Bodies.{declared_locals, frame_of}
 use Rattle.mdr_body.specs.Locals.{named_local, parameter_taken, parameters_from, first_here}
-use Rattle.mdr_body.specs.Statements.{Rules, no_jumps, lines_behind, lines_made}
+use Rattle.mdr_body.specs.Statements.{setting_of, Rules, no_jumps, lines_behind, lines_made}
 use Rattle.mdr_meaning.specs.Lives.{object_params}
 use Rattle.mdr_lower.specs.Lowering.{lowered}
 use Rattle.mdr_lower.proofs.Typed.{new_at}
@@ -160,7 +160,7 @@ body_lowered slots k ss h none =
     (lowered_scoped slots all (more_object slots new none) k ss (object_params 0 slots) h)
 
 module _ (program : Program) (rules : Rules) (scope : Scope) (h : Head) (nodes : List Node) (known : KnowsDeclarations program scope) where
-  made_scoped : (outer : Scope) → outer.tags ≡ scope.tags → (g : Heading) (siblings : List Candidate) (locals : List Local) (ss : List Stmt) → IsHeaded outer siblings h g → ((slots : List Slot) → AreSoundRules program slots scope rules) → ArePlainRules scope rules → AreNamed h.params → AreProper (lines_of nodes) → declared_locals (lines_behind scope (frame_of scope h) (first_here scope (lines_of nodes) h.params) (lines_of nodes)).locals ≡ Right locals → lines_made rules scope (frame_of scope h) no_jumps (first_here scope (lines_of nodes) h.params) (lines_of nodes) ≡ Right ss → AreScoped (map slot_of_param (marked (map (parameter_taken (lines_of nodes)) h.params) 0 g.params) ++ map slot_of_local locals) ss
+  made_scoped : (outer : Scope) → outer.tags ≡ scope.tags → (g : Heading) (siblings : List Candidate) (locals : List Local) (ss : List Stmt) → IsHeaded outer siblings h g → ((slots : List Slot) → AreSoundRules program slots scope rules) → ArePlainRules scope rules → AreNamed h.params → AreProper (lines_of nodes) → declared_locals (lines_behind scope (frame_of scope h) (first_here scope (lines_of nodes) h.params) (lines_of nodes)).locals ≡ Right locals → lines_made (setting_of rules scope (frame_of scope h)) no_jumps (first_here scope (lines_of nodes) h.params) (lines_of nodes) ≡ Right ss → AreScoped (map slot_of_param (marked (map (parameter_taken (lines_of nodes)) h.params) 0 g.params) ++ map slot_of_local locals) ss
   made_scoped outer tags g siblings locals ss headed sound plain named proper declared made =
       let ls : Lines = lines_of nodes in
       let here : Here = first_here scope ls h.params in

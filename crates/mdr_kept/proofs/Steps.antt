@@ -28,6 +28,7 @@ use Rattle.mdr_body.specs.declared.here.Here.{Here}
 use Rattle.mdr_body.specs.declared.here.Jumps.{Jumps}
 use Rattle.mdr_body.specs.Locals.{local_object, is_own_object, with_local}
 use Rattle.mdr_body.specs.Addresses.{takes_in, perhaps_takes, takes_at}
+use Rattle.mdr_body.specs.Statements.{setting_of, target_of}
 use Rattle.mdr_body.specs.Statements.{Rules, stmt, single, stated, text_of, takes_text, is_single, own_place, initial_by, initial_step, declared_then, local_made, broken_by, broken, return_by, return_step, simple_made, simple_behind}
 use Rattle.mdr_sound.specs.Knowing.{KnowsLocals}
 use Rattle.mdr_sound.proofs.Rights.{not_right, same_right, after_right, chosen_right, refused_right}
@@ -57,7 +58,7 @@ return_plain : IsPlainStep (step.Return None)
 return_plain = plain_is (step.Return None) (λ n. Code.Return n None) (λ n. code_is (stmt n (step.Return None)) (step.Return None) refl ∙ return_is n None) (λ n. tt)
 
 module _ (scope : Scope) (rules : Rules) (plain : ArePlainRules scope rules) where
-  return_by_plain : (here : Here) (p : Place) (w : Option Written) (t : Ty) (s : Step) → return_by rules scope here p w t ≡ Right s → IsPlainStep s
+  return_by_plain : (here : Here) (p : Place) (w : Option Written) (t : Ty) (s : Step) → return_by (rules.returned scope here.names) p w t ≡ Right s → IsPlainStep s
   return_by_plain here p None t s e =
       let c = chosen_right (is_void t) (Right (step.Return None)) p Mismatch s e in
       subst IsPlainStep (same_right _ _ c.right) return_plain
@@ -65,13 +66,13 @@ module _ (scope : Scope) (rules : Rules) (plain : ArePlainRules scope rules) whe
       let c = refused_right (is_void t) (rules.returned scope here.names p t w) p Mismatch s e in
       plain.returned here.names p t w s c.right
 
-  return_step_plain : (frame : Frame) (here : Here) (p : Place) (w : Option Written) (s : Step) → return_step rules scope frame here p w ≡ Right s → IsPlainStep s
+  return_step_plain : (frame : Frame) (here : Here) (p : Place) (w : Option Written) (s : Step) → return_step (setting_of rules scope frame) here p w ≡ Right s → IsPlainStep s
   unfolding return_step
   return_step_plain frame here p w s e =
-      let a = after_right (again frame.result) (return_by rules scope here p w) s e in
+      let a = after_right (again frame.result) (return_by (rules.returned scope here.names) p w) s e in
       return_by_plain here p w a.value s a.made
 
-  initial_by_plain : (names : List LocalName) (p : Place) (i : ℕ) (t : Bool) (w : Written) (text : Option (List ℕ)) (o : Object) (s : Step) → initial_by rules scope names p i t w text o ≡ Right s → IsPlainStep s
+  initial_by_plain : (names : List LocalName) (p : Place) (i : ℕ) (t : Bool) (w : Written) (text : Option (List ℕ)) (o : Object) (s : Step) → initial_by (rules.stored scope names) (target_of p i t) w text o ≡ Right s → IsPlainStep s
   initial_by_plain names p i t w (Some bytes) o s e =
       let c = chosen_right (takes_text o (length bytes)) (Right (step.Text i bytes)) p Mismatch s e in
       subst IsPlainStep (same_right _ _ c.right) (text_plain i bytes)
@@ -79,11 +80,11 @@ module _ (scope : Scope) (rules : Rules) (plain : ArePlainRules scope rules) whe
       let c = chosen_right (is_single o) (rules.stored scope names p (own_place (is_own_object t o) i o.ty) o.ty w) p Mismatch s e in
       plain.stored names p (own_place (is_own_object t o) i o.ty) o.ty w s c.right
 
-  initial_plain : (frame : Frame) (here : Here) (t : Bool) (d : Decl) (w : Written) (s : Step) → initial_step rules scope frame here t d w ≡ Right s → IsPlainStep s
+  initial_plain : (frame : Frame) (here : Here) (t : Bool) (d : Decl) (w : Written) (s : Step) → initial_step (setting_of rules scope frame) here t d w ≡ Right s → IsPlainStep s
   unfolding initial_step
   initial_plain frame here t d w s e =
       let names = (with_local scope frame.locks t d here).names in
-      let a = after_right (local_object scope frame.locks d) (initial_by rules scope names (out-Decl d).place here.slot t w (text_of w)) s e in
+      let a = after_right (local_object scope frame.locks d) (initial_by (rules.stored scope names) (target_of (out-Decl d).place here.slot t) w (text_of w)) s e in
       initial_by_plain names (out-Decl d).place here.slot t w (text_of w) a.value s a.made
 
 -- ---- one statement
@@ -136,7 +137,7 @@ module _ (program : Program) (slots : List Slot) (result : Ty) where
 -- ---- any of them
 
 module _ (program : Program) (slots : List Slot) (base : ℕ) (scope : Scope) (frame : Frame) (known : KnowsDeclarations program scope) (rules : Rules) (sound : (seen : List Slot) → AreSoundRules program seen scope rules) (plain : ArePlainRules scope rules) (result : Ty) (gives : frame.result ≡ Ok result) (given : (sort_of (length program.structs) result ≡ Scalar) ⊎ (result ≡ type.Void)) where
-  local_leaves : (here : Here) (objects : List ℕ) (t : Bool) (d : Decl) (init : Option Written) (ss : List Stmt) → 1 ≤ here.number → Live here objects → IsAt slots scope frame.locks here.slot t d → KnowsLocals program slots (with_local scope frame.locks t d here).names → ((v : Written) → init ≡ Some v → IsRight (with_local scope frame.locks t d here).names v) → local_made rules scope frame here t d init ≡ Right ss → Leaves slots (with_local scope frame.locks t d here) objects false ss
+  local_leaves : (here : Here) (objects : List ℕ) (t : Bool) (d : Decl) (init : Option Written) (ss : List Stmt) → 1 ≤ here.number → Live here objects → IsAt slots scope frame.locks here.slot t d → KnowsLocals program slots (with_local scope frame.locks t d here).names → ((v : Written) → init ≡ Some v → IsRight (with_local scope frame.locks t d here).names v) → local_made (setting_of rules scope frame) here t d init ≡ Right ss → Leaves slots (with_local scope frame.locks t d here) objects false ss
   unfolding local_made
   local_leaves here objects t d None ss some live at knows right e =
       let there : Here = with_local scope frame.locks t d here in
@@ -146,7 +147,7 @@ module _ (program : Program) (slots : List Slot) (base : ℕ) (scope : Scope) (f
   local_leaves here objects t d (Some w) ss some live at knows right e =
       let there : Here = with_local scope frame.locks t d here in
       let n = here.number in
-      let a = after_right (initial_step rules scope frame here t d w) (declared_then n here.slot) ss e in
+      let a = after_right (initial_step (setting_of rules scope frame) here t d w) (declared_then n here.slot) ss e in
       let first : Stmt = stmt n (step.Declare here.slot) in
       let second : Stmt = stmt n a.value in
       let more : List ℕ = behind slots objects (Code.Declare n here.slot) in
@@ -168,7 +169,7 @@ module _ (program : Program) (slots : List Slot) (base : ℕ) (scope : Scope) (f
   unfolding broken
   broken_leaves here objects n p jumps ss live e = broken_by_leaves here objects n p jumps.in_loop jumps.breaks ss live e
 
-  pub simple_leaves : (here : Here) (objects : List ℕ) (jumps : Jumps) (t : Bool) (l : Line) (rest : List ℕ → Bool) (ss : List Stmt) → Live here objects → IsHere program slots base here (in_front l rest) → IsProper l → IsTold t l rest → AreDeclared slots base (simple_behind scope frame here t l).locals → simple_made rules scope frame jumps here t l ≡ Right ss → Leaves slots (simple_behind scope frame here t l) objects false ss
+  pub simple_leaves : (here : Here) (objects : List ℕ) (jumps : Jumps) (t : Bool) (l : Line) (rest : List ℕ → Bool) (ss : List Stmt) → Live here objects → IsHere program slots base here (in_front l rest) → IsProper l → IsTold t l rest → AreDeclared slots base (simple_behind scope frame here t l).locals → simple_made (setting_of rules scope frame) jumps here t l ≡ Right ss → Leaves slots (simple_behind scope frame here t l) objects false ss
   simple_leaves here objects jumps t (Line.Empty p) rest ss live h proper told declared e = leaves_one slots here objects false here.number step.Empty ss live (still_empty slots objects here.number) e
   simple_leaves here objects jumps t (Line.Block p ls) rest ss live h proper told declared e = not_right _ ss e
   simple_leaves here objects jumps t (Line.Local p d init) rest ss live h proper told declared e =
@@ -195,7 +196,7 @@ module _ (program : Program) (slots : List Slot) (base : ℕ) (scope : Scope) (f
   simple_leaves here objects jumps t (Line.Return p w) rest ss live h proper told declared e =
       let right = perhaps_right program slots base scope frame known rules (sound slots) result here _ w h (λ name n. or_left (takes_at name (Line.Return p w)) _ n) proper in
       let seen = knows_hidden program slots here objects h.knows live in
-      stated_leaves program slots result here objects here.number (return_step rules scope frame here p w) ss live
+      stated_leaves program slots result here objects here.number (return_step (setting_of rules scope frame) here p w) ss live
       (λ s is. return_sound program (hidden objects slots) base scope frame known rules (sound (hidden objects slots)) result here p w s gives given seen right is) (return_step_plain scope rules plain frame here p w) h.number e
   simple_leaves here objects jumps t (Line.Break p) rest ss live h proper told declared e =
       broken_leaves here objects here.number p jumps ss live e

@@ -1,6 +1,6 @@
 -- Whose addresses a block takes doesn't depend on places.
 use Rattle.mdr_body.specs.Addresses.{takes_among, takes_at, takes_along, clauses_take, hides, is_address, is_declared_by, is_name, takes_in, perhaps_takes}
-use Rattle.mdr_body.specs.Statements.{head_taken, taken_behind}
+use Rattle.mdr_body.specs.Statements.{tail_of, head_taken, taken_behind}
 use Rattle.mdr_faults.specs.Declarations.{is_same_name}
 use Rattle.mdr_placeless.proofs.Declared.{AreDecls}
 use Rattle.mdr_placeless.proofs.Lines.{AreLine, AreLines, AreClauses}
@@ -131,16 +131,16 @@ line_taken (Returns p q o) rs = refl
 line_taken (Breaks p q) rs = refl
 line_taken (Continues p q) rs = refl
 
-behind_by : (n : Option (List ℕ)) {o o' u u' : Option Written} {ls ks ls' ks' : Lines} {l k : Line} → Perhaps AreWritten o o' → AreLines ls ks → Perhaps AreWritten u u' → AreLines ls' ks' → AreLine l k → taken_behind n o ls u ls' l ≡ taken_behind n o' ks u' ks' k
+behind_by : (n : Option (List ℕ)) {o o' u u' : Option Written} {ls ks ls' ks' : Lines} {l k : Line} → Perhaps AreWritten o o' → AreLines ls ks → Perhaps AreWritten u u' → AreLines ls' ks' → AreLine l k → taken_behind n o ls (tail_of u ls' l) ≡ taken_behind n o' ks (tail_of u' ks' k)
 behind_by None h rs g rs' r = refl
 behind_by (Some name) {ks = ks} h rs g rs' r =
     either _ _ _ _ (perhaps_takes_both name h)
     (have_both name rs _ ∙ ap (λ b. takes_along name ks b) (either _ _ _ _ (perhaps_takes_both name g) (either _ _ _ _ (have_both name rs' false) (has_both name r))))
 
-behind_both : {n n' : Option (List ℕ)} {o o' u u' : Option Written} {ls ks ls' ks' : Lines} {l k : Line} → n ≡ n' → Perhaps AreWritten o o' → AreLines ls ks → Perhaps AreWritten u u' → AreLines ls' ks' → AreLine l k → taken_behind n o ls u ls' l ≡ taken_behind n' o' ks u' ks' k
-behind_both {n = n} {o' = o'} {u' = u'} {ks = ks} {ks' = ks'} {k = k} e h rs g rs' r = behind_by n h rs g rs' r ∙ ap (λ (x : Option (List ℕ)). taken_behind x o' ks u' ks' k) e
+behind_both : {n n' : Option (List ℕ)} {o o' u u' : Option Written} {ls ks ls' ks' : Lines} {l k : Line} → n ≡ n' → Perhaps AreWritten o o' → AreLines ls ks → Perhaps AreWritten u u' → AreLines ls' ks' → AreLine l k → taken_behind n o ls (tail_of u ls' l) ≡ taken_behind n' o' ks (tail_of u' ks' k)
+behind_both {n = n} {o' = o'} {u' = u'} {ks = ks} {ks' = ks'} {k = k} e h rs g rs' r = behind_by n h rs g rs' r ∙ ap (λ (x : Option (List ℕ)). taken_behind x o' ks (tail_of u' ks' k)) e
 
-pub head_both : {u u' : Option Written} {ls ks ls' ks' : Lines} {l k b c : Line} → AreLine l k → AreLines ls ks → Perhaps AreWritten u u' → AreLines ls' ks' → AreLine b c → head_taken l ls u ls' b ≡ head_taken k ks u' ks' c
+pub head_both : {u u' : Option Written} {ls ks ls' ks' : Lines} {l k b c : Line} → AreLine l k → AreLines ls ks → Perhaps AreWritten u u' → AreLines ls' ks' → AreLine b c → head_taken l ls (tail_of u ls' b) ≡ head_taken k ks (tail_of u' ks' c)
 head_both (Empties p q) rs g rs' r = refl
 head_both (Blocks p q ls) rs g rs' r = refl
 head_both (Locals p q d o) rs g rs' r = behind_both d.decl.named o rs g rs' r

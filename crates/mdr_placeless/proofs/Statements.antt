@@ -3,6 +3,7 @@ use Rattle.mdr_body.specs.Bodies.{body_by, body_rule, declared_locals, local_aga
 use Rattle.mdr_body.specs.Locals.{entered, is_own_object, left, local_object, numbered, parameter_taken, with_local}
 use Rattle.mdr_body.specs.Clauses.{clause_place, ends, is_last, label_kind}
 use Rattle.mdr_body.specs.Labels.{labels_behind}
+use Rattle.mdr_body.specs.Statements.{setting_of, standing_of, tail_of, target_of}
 use Rattle.mdr_body.specs.Statements.{ForHead, as_part, behind_head, broken, broken_by, clause_jumps, clauses_behind, clauses_made, condition, declared_then, do_of, for_head, for_of, heads_behind, heads_made, if_of, initial_by, initial_step, inner_jumps, jumped, jumps_before, line_behind, line_made, lines_behind, lines_made, local_made, loop_jumps, no_jumps, own_place, perhaps_behind, perhaps_condition, perhaps_made, return_by, return_step, simple_behind, simple_made, steps_behind, steps_made, switch_of, tested_value, text_of, value_return, while_of}
 use Rattle.mdr_body.specs.declared.clauses.MadeClause.{MadeClause}
 use Rattle.mdr_body.specs.declared.here.Breaks.{Breaks as Leaving}
@@ -86,14 +87,14 @@ module _ {s t : Scope} (a : AreScopes s t) {h k : Here} (r : AreHere h k) where
 
   -- ---- returns
 
-  values_returned : (p q : Place) {v w : Written} → AreWritten v w → (u : Ty) → AreAlike (value_return profile_rules s h p v u) (value_return profile_rules t k q w u)
+  values_returned : (p q : Place) {v w : Written} → AreWritten v w → (u : Ty) → AreAlike (value_return (profile_rules.returned s h.names) p v u) (value_return (profile_rules.returned t k.names) q w u)
   values_returned p q z u = chosen_alike (is_void u) (Wrongs _ _) (returns_of a r.names_both p q u z)
 
-  returns_by : (p q : Place) {o o' : Option Written} → Perhaps AreWritten o o' → (u : Ty) → AreAlike (return_by profile_rules s h p o u) (return_by profile_rules t k q o' u)
+  returns_by : (p q : Place) {o o' : Option Written} → Perhaps AreWritten o o' → (u : Ty) → AreAlike (return_by (profile_rules.returned s h.names) p o u) (return_by (profile_rules.returned t k.names) q o' u)
   returns_by p q Nones u = chosen_alike (is_void u) (Rights _) (Wrongs _ _)
   returns_by p q (Somes z) u = values_returned p q z u
 
-  returns_both : {f g : Frame} → AreFrames f g → (p q : Place) {o o' : Option Written} → Perhaps AreWritten o o' → AreAlike (return_step profile_rules s f h p o) (return_step profile_rules t g k q o')
+  returns_both : {f g : Frame} → AreFrames f g → (p q : Place) {o o' : Option Written} → Perhaps AreWritten o o' → AreAlike (return_step (setting_of profile_rules s f) h p o) (return_step (setting_of profile_rules t g) k q o')
   unfolding return_step
   returns_both fs p q z = after_alike (again_alike fs.result_both) (returns_by p q z)
 
@@ -112,7 +113,7 @@ text_both (Calls p q r rs) = refl
 text_both (Texts p q bytes) = refl
 text_both (Types p q n bs) = refl
 
-initials_by : {s t : Scope} → AreScopes s t → {ns ms : List LocalName} → Pairs AreLocalNames ns ms → (p q : Place) (slot : ℕ) (b : Bool) {v w : Written} → AreWritten v w → (x : Option (List ℕ)) (o : Object) → AreAlike (initial_by profile_rules s ns p slot b v x o) (initial_by profile_rules t ms q slot b w x o)
+initials_by : {s t : Scope} → AreScopes s t → {ns ms : List LocalName} → Pairs AreLocalNames ns ms → (p q : Place) (slot : ℕ) (b : Bool) {v w : Written} → AreWritten v w → (x : Option (List ℕ)) (o : Object) → AreAlike (initial_by (profile_rules.stored s ns) (target_of p slot b) v x o) (initial_by (profile_rules.stored t ms) (target_of q slot b) w x o)
 initials_by a h p q slot b z None o = chosen_alike (is_single o) (stores a h p q (own_place (is_own_object b o) slot o.ty) o.ty z) (Wrongs _ _)
 initials_by a h p q slot b z (Some bytes) o = chosen_alike (takes_text o (length bytes)) (Rights _) (Wrongs _ _)
 
@@ -145,22 +146,22 @@ module _ {s t : Scope} (a : AreScopes s t) {f g : Frame} (fs : AreFrames f g) wh
   objects_in : {d e : Decl} → AreWhole d e → AreAlike (local_object s f.locks d) (local_object t g.locks e)
   objects_in {d = d} {e = e} w = subst (λ (ls : List Bool). AreAlike (local_object s f.locks d) (local_object t ls e)) fs.lock_both (local_objects a f.locks w.decl)
 
-  initial_steps : {h k : Here} → AreHere h k → {d e : Decl} → AreWhole d e → (b : Bool) {v w : Written} → AreWritten v w → AreAlike (initial_step profile_rules s f h b d v) (initial_step profile_rules t g k b e w)
+  initial_steps : {h k : Here} → AreHere h k → {d e : Decl} → AreWhole d e → (b : Bool) {v w : Written} → AreWritten v w → AreAlike (initial_step (setting_of profile_rules s f) h b d v) (initial_step (setting_of profile_rules t g) k b e w)
   unfolding initial_step
   initial_steps {h = h} {k = k} r {d = d} {e = e} w b {v = v} {w = v'} z =
       after_alike (objects_in w) (λ o.
-      subst (λ n. AreAlike (initial_by profile_rules s (with_local s f.locks b d h).names (out-Decl d).place h.slot b v (text_of v) o) (initial_by profile_rules t (with_local t g.locks b e k).names (out-Decl e).place n b v' (text_of v') o)) r.slot_both
-      (subst (λ x. AreAlike (initial_by profile_rules s (with_local s f.locks b d h).names (out-Decl d).place h.slot b v (text_of v) o) (initial_by profile_rules t (with_local t g.locks b e k).names (out-Decl e).place h.slot b v' x o)) (text_both z)
+      subst (λ n. AreAlike (initial_by (profile_rules.stored s (with_local s f.locks b d h).names) (target_of (out-Decl d).place h.slot b) v (text_of v) o) (initial_by (profile_rules.stored t (with_local t g.locks b e k).names) (target_of (out-Decl e).place n b) v' (text_of v') o)) r.slot_both
+      (subst (λ x. AreAlike (initial_by (profile_rules.stored s (with_local s f.locks b d h).names) (target_of (out-Decl d).place h.slot b) v (text_of v) o) (initial_by (profile_rules.stored t (with_local t g.locks b e k).names) (target_of (out-Decl e).place h.slot b) v' x o)) (text_both z)
       (initials_by a (with_in r w b).names_both (out-Decl d).place (out-Decl e).place h.slot b z (text_of v) o)))
 
-  locals_made : {h k : Here} → AreHere h k → {d e : Decl} → AreWhole d e → (b : Bool) {o o' : Option Written} → Perhaps AreWritten o o' → AreAlike (local_made profile_rules s f h b d o) (local_made profile_rules t g k b e o')
+  locals_made : {h k : Here} → AreHere h k → {d e : Decl} → AreWhole d e → (b : Bool) {o o' : Option Written} → Perhaps AreWritten o o' → AreAlike (local_made (setting_of profile_rules s f) h b d o) (local_made (setting_of profile_rules t g) k b e o')
   unfolding local_made
   locals_made {h = h} {k = k} r w b Nones = rights_by (ap (λ n. stmt n (step.Declare h.slot) ∷ []) r.number_both ∙ ap (λ n. stmt k.number (step.Declare n) ∷ []) r.slot_both)
   locals_made {h = h} {k = k} r w b (Somes z) = after_alike (initial_steps r w b z) (λ x. declared_then_both h.number k.number h.slot k.slot x r.number_both r.slot_both)
 
   -- ---- statements without parts
 
-  simples : {h k : Here} → AreHere h k → (around : Jumps) (b : Bool) {l l' : Line} → AreLine l l' → AreAlike (simple_made profile_rules s f around h b l) (simple_made profile_rules t g around k b l')
+  simples : {h k : Here} → AreHere h k → (around : Jumps) (b : Bool) {l l' : Line} → AreLine l l' → AreAlike (simple_made (setting_of profile_rules s f) around h b l) (simple_made (setting_of profile_rules t g) around k b l')
   simples {h = h} {k = k} r around b (Empties p q) = same_single h.number k.number step.Empty r.number_both
   simples r around b (Blocks p q ls) = Wrongs _ _
   simples r around b (Locals p q w o) = locals_made r w b o
@@ -175,8 +176,8 @@ module _ {s t : Scope} (a : AreScopes s t) {f g : Frame} (fs : AreFrames f g) wh
   simples {h = h} {k = k} r around b (Breaks p q) = broken_both h.number k.number r.number_both p q around
   simples {h = h} {k = k} r around b (Continues p q) = stated_both h.number k.number r.number_both (jumps p q around.in_loop step.Continue)
 
-  simples_by : {h k : Here} → AreHere h k → (around : Jumps) (b c : Bool) → b ≡ c → {l l' : Line} → AreLine l l' → AreAlike (simple_made profile_rules s f around h b l) (simple_made profile_rules t g around k c l')
-  simples_by {h = h} {k = k} r around b c e {l = l} {l' = l'} z = subst (λ x. AreAlike (simple_made profile_rules s f around h b l) (simple_made profile_rules t g around k x l')) e (simples r around b z)
+  simples_by : {h k : Here} → AreHere h k → (around : Jumps) (b c : Bool) → b ≡ c → {l l' : Line} → AreLine l l' → AreAlike (simple_made (setting_of profile_rules s f) around h b l) (simple_made (setting_of profile_rules t g) around k c l')
+  simples_by {h = h} {k = k} r around b c e {l = l} {l' = l'} z = subst (λ x. AreAlike (simple_made (setting_of profile_rules s f) around h b l) (simple_made (setting_of profile_rules t g) around k x l')) e (simples r around b z)
 
   behinds : {h k : Here} → AreHere h k → (b : Bool) {l l' : Line} → AreLine l l' → AreHere (simple_behind s f h b l) (simple_behind t g k b l')
   behinds r b (Empties p q) = r
@@ -199,17 +200,17 @@ module _ {s t : Scope} (a : AreScopes s t) {f g : Frame} (fs : AreFrames f g) wh
   -- ---- the head of a `for`
 
   module _ {o o' : Option Written} {ls' ks' : Lines} {b c : Line} (z : Perhaps AreWritten o o') (rs' : AreLines ls' ks') (y : AreLine b c) where
-    heads_of : {ls ks : Lines} → AreLines ls ks → {h k : Here} → AreHere h k → AreAlike (heads_made profile_rules s f h o ls' b ls) (heads_made profile_rules t g k o' ks' c ks)
+    heads_of : {ls ks : Lines} → AreLines ls ks → {h k : Here} → AreHere h k → AreAlike (heads_made (setting_of profile_rules s f) h (tail_of o ls' b) ls) (heads_made (setting_of profile_rules t g) k (tail_of o' ks' c) ks)
     unfolding heads_made
     heads_of NoLines r = Rights _
     heads_of (MoreLines x xs) r = both_alike (simples_by r no_jumps _ _ (head_both x xs z rs' y) x) (heads_of xs (behinds_by r _ _ (head_both x xs z rs' y) x)) (λ u v. Rights _)
 
-    heads_past : {ls ks : Lines} → AreLines ls ks → {h k : Here} → AreHere h k → AreHere (heads_behind s f h o ls' b ls) (heads_behind t g k o' ks' c ks)
+    heads_past : {ls ks : Lines} → AreLines ls ks → {h k : Here} → AreHere h k → AreHere (heads_behind s f h (tail_of o ls' b) ls) (heads_behind t g k (tail_of o' ks' c) ks)
     unfolding heads_behind
     heads_past NoLines r = r
     heads_past (MoreLines x xs) r = heads_past xs (behinds_by r _ _ (head_both x xs z rs' y) x)
 
-  steps_of : {ls ks : Lines} → AreLines ls ks → {h k : Here} → AreHere h k → AreAlike (steps_made profile_rules s f h ls) (steps_made profile_rules t g k ks)
+  steps_of : {ls ks : Lines} → AreLines ls ks → {h k : Here} → AreHere h k → AreAlike (steps_made (setting_of profile_rules s f) h ls) (steps_made (setting_of profile_rules t g) k ks)
   steps_of NoLines r = Rights _
   steps_of (MoreLines x xs) r = simples r no_jumps false x
 
@@ -217,11 +218,11 @@ module _ {s t : Scope} (a : AreScopes s t) {f g : Frame} (fs : AreFrames f g) wh
   steps_past NoLines r = r
   steps_past (MoreLines x xs) r = behinds r false x
 
-  for_heads : {h k : Here} → AreHere h k → (p q : Place) {ls ks ls' ks' : Lines} {o o' : Option Written} {b c : Line} → AreLines ls ks → Perhaps AreWritten o o' → AreLines ls' ks' → AreLine b c → AreAlike (for_head profile_rules s f h p ls o ls' b) (for_head profile_rules t g k q ks o' ks' c)
+  for_heads : {h k : Here} → AreHere h k → (p q : Place) {ls ks ls' ks' : Lines} {o o' : Option Written} {b c : Line} → AreLines ls ks → Perhaps AreWritten o o' → AreLines ls' ks' → AreLine b c → AreAlike (for_head (setting_of profile_rules s f) h p ls (tail_of o ls' b)) (for_head (setting_of profile_rules t g) k q ks (tail_of o' ks' c))
   unfolding for_head
   for_heads r p q rs z rs' y = both_alike (both_alike (heads_of z rs' y rs r) (perhaps_conditions a (heads_past z rs' y rs r) p q z) (λ u v. Rights _)) (steps_of rs' (heads_past z rs' y rs r)) (λ u v. Rights _)
 
-  past_heads : {h k : Here} → AreHere h k → {ls ks ls' ks' : Lines} {o o' : Option Written} {b c : Line} → AreLines ls ks → Perhaps AreWritten o o' → AreLines ls' ks' → AreLine b c → AreHere (behind_head s f h ls o ls' b) (behind_head t g k ks o' ks' c)
+  past_heads : {h k : Here} → AreHere h k → {ls ks ls' ks' : Lines} {o o' : Option Written} {b c : Line} → AreLines ls ks → Perhaps AreWritten o o' → AreLines ls' ks' → AreLine b c → AreHere (behind_head s f h ls (tail_of o ls' b)) (behind_head t g k ks (tail_of o' ks' c))
   unfolding behind_head
   past_heads r rs z rs' y = numbered_both (steps_past rs' (heads_past z rs' y rs r))
 
@@ -276,7 +277,7 @@ module _ {s t : Scope} (a : AreScopes s t) {f g : Frame} (fs : AreFrames f g) wh
   parts_both false h = after_alike h (λ ss. Rights _)
 
   mutual
-    line_made_both : {l l' : Line} → AreLine l l' → (around : Jumps) (is_part : Bool) {h k : Here} → AreHere h k → (b : Bool) → AreAlike (line_made profile_rules s f around is_part h b l) (line_made profile_rules t g around is_part k b l')
+    line_made_both : {l l' : Line} → AreLine l l' → (around : Jumps) (is_part : Bool) {h k : Here} → AreHere h k → (b : Bool) → AreAlike (line_made (setting_of profile_rules s f) (standing_of around is_part b) h l) (line_made (setting_of profile_rules t g) (standing_of around is_part b) k l')
     line_made_both (Empties p q) around is_part r b = simples r around b (Empties p q)
     line_made_both (Blocks p q ls) around is_part r b = parts_both is_part (lines_made_both ls (inner_jumps around) (entered_both r))
     line_made_both (Locals p q w o) around is_part r b = simples r around b (Locals p q w o)
@@ -295,34 +296,34 @@ module _ {s t : Scope} (a : AreScopes s t) {f g : Frame} (fs : AreFrames f g) wh
         let tested = tested_values a r p q z in
         let κ : Kind = label_kind (tested_value profile_rules s h p v) in
         both_alike tested
-        (subst (λ c. AreAlike (clauses_made profile_rules s f inner (numbered h) (record { place = p; kind = κ }) [] cs) (clauses_made profile_rules t g inner (numbered k) (record { place = q; kind = c }) [] ds)) (kinds_same tested)
+        (subst (λ c. AreAlike (clauses_made (setting_of profile_rules s f) inner (numbered h) (record { place = p; kind = κ }) [] cs) (clauses_made (setting_of profile_rules t g) inner (numbered k) (record { place = q; kind = c }) [] ds)) (kinds_same tested)
         (clauses_made_both rs inner (numbered_both r) p q κ []))
         (switches_both h.number k.number r.number_both)
     line_made_both (Returns p q o) around is_part r b = simples r around b (Returns p q o)
     line_made_both (Breaks p q) around is_part r b = simples r around b (Breaks p q)
     line_made_both (Continues p q) around is_part r b = simples r around b (Continues p q)
 
-    perhaps_made_both : {ls ks : Lines} → AreLines ls ks → (around : Jumps) {h k : Here} → AreHere h k → AreAlike (perhaps_made profile_rules s f around h ls) (perhaps_made profile_rules t g around k ks)
+    perhaps_made_both : {ls ks : Lines} → AreLines ls ks → (around : Jumps) {h k : Here} → AreHere h k → AreAlike (perhaps_made (setting_of profile_rules s f) around h ls) (perhaps_made (setting_of profile_rules t g) around k ks)
     perhaps_made_both NoLines around r = Rights _
     perhaps_made_both (MoreLines x xs) around r = line_made_both x around true r false
 
-    lines_made_both : {ls ks : Lines} → AreLines ls ks → (around : Jumps) {h k : Here} → AreHere h k → AreAlike (lines_made profile_rules s f around h ls) (lines_made profile_rules t g around k ks)
+    lines_made_both : {ls ks : Lines} → AreLines ls ks → (around : Jumps) {h k : Here} → AreHere h k → AreAlike (lines_made (setting_of profile_rules s f) around h ls) (lines_made (setting_of profile_rules t g) around k ks)
     lines_made_both NoLines around r = Rights _
     lines_made_both (MoreLines {l = l} {k = l'} {ls = ls} {ks = ks} x xs) around {h = h} {k = k} r =
         let inner : Jumps = jumps_before around ls in
-        both_alike (subst (λ j. AreAlike (line_made profile_rules s f inner false h (is_taken l ls) l) (line_made profile_rules t g j false k (is_taken l' ks) l')) (before_both around xs)
-        (subst (λ c. AreAlike (line_made profile_rules s f inner false h (is_taken l ls) l) (line_made profile_rules t g inner false k c l')) (line_taken x xs) (line_made_both x inner false r (is_taken l ls))))
+        both_alike (subst (λ j. AreAlike (line_made (setting_of profile_rules s f) (standing_of inner false (is_taken l ls)) h l) (line_made (setting_of profile_rules t g) (standing_of j false (is_taken l' ks)) k l')) (before_both around xs)
+        (subst (λ c. AreAlike (line_made (setting_of profile_rules s f) (standing_of inner false (is_taken l ls)) h l) (line_made (setting_of profile_rules t g) (standing_of inner false c) k l')) (line_taken x xs) (line_made_both x inner false r (is_taken l ls))))
         (lines_made_both xs around (subst (λ c. AreHere (line_behind s f h (is_taken l ls) l) (line_behind t g k c l')) (line_taken x xs) (line_past x r (is_taken l ls)))) (λ u v. Rights _)
 
     -- over a value of a kind, behind the labels that were seen
     clauses_made_both : {cs ds : Clauses} → AreClauses cs ds → (around : Jumps) {h k : Here} → AreHere h k → (p q : Place) (κ : Kind) (seen : List CaseLabel)
-        → AreAlike (clauses_made profile_rules s f around h (record { place = p; kind = κ }) seen cs) (clauses_made profile_rules t g around k (record { place = q; kind = κ }) seen ds)
+        → AreAlike (clauses_made (setting_of profile_rules s f) around h (record { place = p; kind = κ }) seen cs) (clauses_made (setting_of profile_rules t g) around k (record { place = q; kind = κ }) seen ds)
     clauses_made_both NoClauses around r p q κ seen = Rights _
     clauses_made_both (MoreClauses {xs = xs} {ys = ys} {ls = ls} {ks = ks} {cs = cs} {ds = ds} labels lines clauses) around {h = h} {k = k} r p q κ seen =
         let inner = left_both r (lines_past lines (entered_both r)) in
         let behind : List CaseLabel = labels_behind s h.names κ seen xs in
         both_alike (both_alike (labels_both a r.names_both κ seen labels) (demand_by (clause_place p xs) (clause_place q ys) Mismatch (ends ls (is_last cs)) (ends ks (is_last ds)) (ends_both lines clauses) (lines_made_both lines around (entered_both r))) (λ u v. Rights _))
-        (subst (λ z. AreAlike (clauses_made profile_rules s f around (left h (lines_behind s f (entered h) ls)) (record { place = p; kind = κ }) behind cs) (clauses_made profile_rules t g around (left k (lines_behind t g (entered k) ks)) (record { place = q; kind = κ }) z ds)) (seen_both a r.names_both κ seen labels)
+        (subst (λ z. AreAlike (clauses_made (setting_of profile_rules s f) around (left h (lines_behind s f (entered h) ls)) (record { place = p; kind = κ }) behind cs) (clauses_made (setting_of profile_rules t g) around (left k (lines_behind t g (entered k) ks)) (record { place = q; kind = κ }) z ds)) (seen_both a r.names_both κ seen labels)
         (clauses_made_both clauses around inner p q κ behind)) (λ u v. Rights _)
 
 -- ---- bodies
@@ -335,7 +336,7 @@ locals_of : {ds es : List DeclaredLocal} → Pairs AreLocals ds es → AreAlike 
 unfolding declared_locals
 locals_of h = all_declared h
 
-bodies_by : {s t : Scope} → AreScopes s t → {f g : Frame} → AreFrames f g → {h k : Here} → AreHere h k → (bs cs : List Bool) → bs ≡ cs → {ls ks : Lines} → AreLines ls ks → AreAlike (body_by profile_rules s f h bs ls) (body_by profile_rules t g k cs ks)
+bodies_by : {s t : Scope} → AreScopes s t → {f g : Frame} → AreFrames f g → {h k : Here} → AreHere h k → (bs cs : List Bool) → bs ≡ cs → {ls ks : Lines} → AreLines ls ks → AreAlike (body_by (setting_of profile_rules s f) h bs ls) (body_by (setting_of profile_rules t g) k cs ks)
 bodies_by a fs r bs cs e rs = both_alike (locals_of (lines_past a fs rs r).locals_both) (lines_made_both a fs rs no_jumps r) (λ ls ss. rights_by (ap (λ (x : List Bool). record { objects = x; locals = ls; statements = ss }) e))
 
 pub bodies : {s t : Scope} → AreScopes s t → (h : Head) (ns : List Node) → AreAlike (body_rule profile_rules s h ns) (body_rule profile_rules t (unplaced_head h) (map unplaced_node ns))

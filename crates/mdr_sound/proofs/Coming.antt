@@ -9,7 +9,7 @@ use Rattle.mdr_body.specs.declared.here.DeclaredLocal.{DeclaredLocal}
 use Rattle.mdr_body.specs.declared.here.Frame.{Frame}
 use Rattle.mdr_body.specs.declared.here.Here.{Here}
 use Rattle.mdr_body.specs.Locals.{local_declared, with_local, is_taken, entered, left, numbered}
-use Rattle.mdr_body.specs.Statements.{simple_behind, head_taken, heads_behind, steps_behind, behind_head, line_behind, perhaps_behind, lines_behind, clauses_behind}
+use Rattle.mdr_body.specs.Statements.{tail_of, simple_behind, head_taken, heads_behind, steps_behind, behind_head, line_behind, perhaps_behind, lines_behind, clauses_behind}
 
 pub record IsFrom (scope : Scope) (locks : List Bool) (m : DeclaredLocal) : Type 0 where
   pub here : Here
@@ -41,18 +41,18 @@ module _ (scope : Scope) (frame : Frame) where
   from_simple a t (Line.Local p d init) h = from_local t d a h
   from_simple a t l h = h
 
-  from_heads : (a : Here) (test : Option Written) (next : Lines) (body : Line) (ls : Lines) → AreFrom scope frame.locks a.locals → AreFrom scope frame.locks (heads_behind scope frame a test next body ls).locals
+  from_heads : (a : Here) (test : Option Written) (next : Lines) (body : Line) (ls : Lines) → AreFrom scope frame.locks a.locals → AreFrom scope frame.locks (heads_behind scope frame a (tail_of test next body) ls).locals
   unfolding heads_behind
   from_heads a test next body Lines.End h = h
-  from_heads a test next body (Lines.Then l ls) h = from_heads (simple_behind scope frame a (head_taken l ls test next body) l) test next body ls (from_simple a (head_taken l ls test next body) l h)
+  from_heads a test next body (Lines.Then l ls) h = from_heads (simple_behind scope frame a (head_taken l ls (tail_of test next body)) l) test next body ls (from_simple a (head_taken l ls (tail_of test next body)) l h)
 
   from_steps : (a : Here) (ls : Lines) → AreFrom scope frame.locks a.locals → AreFrom scope frame.locks (steps_behind scope frame a ls).locals
   from_steps a Lines.End h = h
   from_steps a (Lines.Then l ls) h = from_simple a false l h
 
-  from_head : (a : Here) (init : Lines) (test : Option Written) (next : Lines) (body : Line) → AreFrom scope frame.locks a.locals → AreFrom scope frame.locks (behind_head scope frame a init test next body).locals
+  from_head : (a : Here) (init : Lines) (test : Option Written) (next : Lines) (body : Line) → AreFrom scope frame.locks a.locals → AreFrom scope frame.locks (behind_head scope frame a init (tail_of test next body)).locals
   unfolding behind_head
-  from_head a init test next body h = from_steps (heads_behind scope frame a test next body init) next (from_heads a test next body init h)
+  from_head a init test next body h = from_steps (heads_behind scope frame a (tail_of test next body) init) next (from_heads a test next body init h)
 
   mutual
     from_line : (a : Here) (t : Bool) (l : Line) → AreFrom scope frame.locks a.locals → AreFrom scope frame.locks (line_behind scope frame a t l).locals
@@ -60,7 +60,7 @@ module _ (scope : Scope) (frame : Frame) where
     from_line a t (Line.Local p d init) h = from_local t d a h
     from_line a t (Line.If p w one other) h = from_perhaps (line_behind scope frame (numbered a) false one) other (from_line (numbered a) false one h)
     from_line a t (Line.While p w body) h = from_line (numbered a) false body h
-    from_line a t (Line.For p init test next body) h = from_line (behind_head scope frame (entered a) init test next body) false body (from_head (entered a) init test next body h)
+    from_line a t (Line.For p init test next body) h = from_line (behind_head scope frame (entered a) init (tail_of test next body)) false body (from_head (entered a) init test next body h)
     from_line a t (Line.Do p body w) h = from_line (numbered a) false body h
     from_line a t (Line.Switch p w cs) h = from_clauses (numbered a) cs h
     from_line a t l h = h

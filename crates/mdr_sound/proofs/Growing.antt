@@ -8,7 +8,7 @@ use Rattle.mdr_body.specs.declared.here.DeclaredLocal.{DeclaredLocal}
 use Rattle.mdr_body.specs.declared.here.Frame.{Frame}
 use Rattle.mdr_body.specs.declared.here.Here.{Here}
 use Rattle.mdr_body.specs.Locals.{with_local, is_taken, entered, left, numbered}
-use Rattle.mdr_body.specs.Statements.{simple_behind, head_taken, heads_behind, steps_behind, behind_head, line_behind, perhaps_behind, lines_behind, clauses_behind}
+use Rattle.mdr_body.specs.Statements.{tail_of, simple_behind, head_taken, heads_behind, steps_behind, behind_head, line_behind, perhaps_behind, lines_behind, clauses_behind}
 use Rattle.mdr_sound.specs.Written.{IsStatement, AreStatements, IsProper, AreProper}
 use Rattle.mdr_sound.proofs.JoinedLists.{take_front}
 
@@ -55,21 +55,21 @@ module _ (scope : Scope) (frame : Frame) where
   simple_grows a t (Line.Local p d init) = grows_local t d a
   simple_grows a t l = grows_none a
 
-  pub heads_grow : (a : Here) (test : Option Written) (step : Lines) (body : Line) (ls : Lines) → Grows a (heads_behind scope frame a test step body ls)
+  pub heads_grow : (a : Here) (test : Option Written) (step : Lines) (body : Line) (ls : Lines) → Grows a (heads_behind scope frame a (tail_of test step body) ls)
   unfolding heads_behind
   heads_grow a test step body Lines.End = grows_none a
   heads_grow a test step body (Lines.Then l ls) =
-      let b : Here = simple_behind scope frame a (head_taken l ls test step body) l in
-      grows_on a b _ (simple_grows a (head_taken l ls test step body) l) (heads_grow b test step body ls)
+      let b : Here = simple_behind scope frame a (head_taken l ls (tail_of test step body)) l in
+      grows_on a b _ (simple_grows a (head_taken l ls (tail_of test step body)) l) (heads_grow b test step body ls)
 
   pub steps_grow : (a : Here) (ls : Lines) → Grows a (steps_behind scope frame a ls)
   steps_grow a Lines.End = grows_none a
   steps_grow a (Lines.Then l ls) = simple_grows a false l
 
-  pub head_grows : (a : Here) (init : Lines) (test : Option Written) (step : Lines) (body : Line) → Grows a (behind_head scope frame a init test step body)
+  pub head_grows : (a : Here) (init : Lines) (test : Option Written) (step : Lines) (body : Line) → Grows a (behind_head scope frame a init (tail_of test step body))
   unfolding behind_head
   head_grows a init test step body =
-      let b : Here = heads_behind scope frame a test step body init in
+      let b : Here = heads_behind scope frame a (tail_of test step body) init in
       let c : Here = steps_behind scope frame b step in
       grows_on a b _ (heads_grow a test step body init) (grows_on b c _ (steps_grow b step) (grows_numbered c))
 
@@ -87,7 +87,7 @@ module _ (scope : Scope) (frame : Frame) where
         grows_on a (numbered a) _ (grows_numbered a) (grows_on (numbered a) b _ (line_grows (numbered a) false one) (perhaps_grow b other))
     line_grows a t (Line.While p e body) = grows_on a (numbered a) _ (grows_numbered a) (line_grows (numbered a) false body)
     line_grows a t (Line.For p init test step body) =
-        let b : Here = behind_head scope frame (entered a) init test step body in
+        let b : Here = behind_head scope frame (entered a) init (tail_of test step body) in
         grows_left a _ (grows_on (entered a) b _ (head_grows (entered a) init test step body) (line_grows b false body))
     line_grows a t (Line.Do p body e) = grows_on a (numbered a) _ (grows_numbered a) (line_grows (numbered a) false body)
     line_grows a t (Line.Switch p e cs) = grows_on a (numbered a) _ (grows_numbered a) (clauses_grow (numbered a) cs)
@@ -128,7 +128,7 @@ module _ (scope : Scope) (frame : Frame) where
         perhaps_keeps (line_behind scope frame (numbered a) false one) other h.1.1.0 h.1.1.1 ∙ names_keep (numbered a) false one h.1.0.0 h.1.0.1
     names_keep a t (Line.While p e body) s h = names_keep (numbered a) false body h.1.0 h.1.1
     names_keep a t (Line.For p init test step body) s h =
-        let b : Here = behind_head scope frame (entered a) init test step body in
+        let b : Here = behind_head scope frame (entered a) init (tail_of test step body) in
         left_keeps a _ (grows_on (entered a) b _ (head_grows (entered a) init test step body) (line_grows b false body))
     names_keep a t (Line.Do p body e) s h = names_keep (numbered a) false body h.0.0 h.0.1
     names_keep a t (Line.Switch p e cs) s h = clauses_keep (numbered a) cs

@@ -16,7 +16,7 @@ use Rattle.mdr_body.specs.declared.here.Frame.{Frame}
 use Rattle.mdr_body.specs.declared.here.Here.{Here}
 use Rattle.mdr_body.specs.Locals.{with_local, takes, is_taken}
 use Rattle.mdr_body.specs.Addresses.{perhaps_takes, takes_at, takes_along}
-use Rattle.mdr_body.specs.Statements.{Rules, no_jumps, appended, pair, taken_behind, head_taken, simple_made, simple_behind, heads_made, heads_behind, steps_made, steps_behind}
+use Rattle.mdr_body.specs.Statements.{setting_of, tail_of, Rules, no_jumps, appended, pair, taken_behind, head_taken, simple_made, simple_behind, heads_made, heads_behind, steps_made, steps_behind}
 use Rattle.mdr_sound.proofs.Rights.{same_right, both_right}
 use Rattle.mdr_sound.specs.Rules.{AreSoundRules}
 use Rattle.mdr_sound.specs.Written.{IsStatement, AreStatements, IsProper, AreProper}
@@ -45,11 +45,11 @@ pair_right c d z e =
 abbrev pub tail : (test : Option Written) → (step : Lines) → (body : Line) → List ℕ → Bool
 tail test step body name = perhaps_takes name test || (takes_along name step false || takes_at name body)
 
-told_by : (name : Option (List ℕ)) (init : Option Written) (ls : Lines) (test : Option Written) (step : Lines) (body : Line) → taken_behind name init ls test step body ≡ takes_behind name init (λ n. takes_along n ls (tail test step body n))
+told_by : (name : Option (List ℕ)) (init : Option Written) (ls : Lines) (test : Option Written) (step : Lines) (body : Line) → taken_behind name init ls (tail_of test step body) ≡ takes_behind name init (λ n. takes_along n ls (tail test step body n))
 told_by None init ls test step body = refl
 told_by (Some name) init ls test step body = refl
 
-pub told_head : (l : Line) (ls : Lines) (test : Option Written) (step : Lines) (body : Line) → IsTold (head_taken l ls test step body) l (λ n. takes_along n ls (tail test step body n))
+pub told_head : (l : Line) (ls : Lines) (test : Option Written) (step : Lines) (body : Line) → IsTold (head_taken l ls (tail_of test step body)) l (λ n. takes_along n ls (tail test step body n))
 told_head (Line.Local p d init) ls test step body = told_by (out-Decl d).name init ls test step body
 told_head l ls test step body = tt
 
@@ -79,30 +79,30 @@ module _ (program : Program) (slots : List Slot) (base : ℕ) (scope : Scope) (f
       here_less program slots base (with_local scope frame.locks t d here) _ behind (here_local program slots base scope frame known here t p d init behind h proper.0 told declared) (λ name e. or_right (perhaps_takes name init) (behind name) e)
   simple_here here t l behind h proper told declared = here_less program slots base here (in_front l behind) behind h (λ name e. or_right (takes_at name l) (behind name) e)
 
-  pub heads_here : (here : Here) (test : Option Written) (step : Lines) (body : Line) (ls : Lines) → IsHere program slots base here (λ n. takes_along n ls (tail test step body n)) → AreProper ls → AreDeclared slots base (heads_behind scope frame here test step body ls).locals → IsHere program slots base (heads_behind scope frame here test step body ls) (tail test step body)
+  pub heads_here : (here : Here) (test : Option Written) (step : Lines) (body : Line) (ls : Lines) → IsHere program slots base here (λ n. takes_along n ls (tail test step body n)) → AreProper ls → AreDeclared slots base (heads_behind scope frame here (tail_of test step body) ls).locals → IsHere program slots base (heads_behind scope frame here (tail_of test step body) ls) (tail test step body)
   unfolding heads_behind
   heads_here here test step body Lines.End h proper declared = h
   heads_here here test step body (Lines.Then l ls) h proper declared =
-      let t = head_taken l ls test step body in
+      let t = head_taken l ls (tail_of test step body) in
       let b : Here = simple_behind scope frame here t l in
-      let first = declared_before slots base b.locals (heads_behind scope frame b test step body ls).locals _ (heads_grow scope frame b test step body ls).locals_are declared in
+      let first = declared_before slots base b.locals (heads_behind scope frame b (tail_of test step body) ls).locals _ (heads_grow scope frame b test step body ls).locals_are declared in
       heads_here b test step body ls (simple_here here t l (λ n. takes_along n ls (tail test step body n)) h proper.0 (told_head l ls test step body) first) proper.1 declared
 
   module _ (rules : Rules) (sound : AreSoundRules program slots scope rules) (result : Ty) (gives : frame.result ≡ Ok result) (given : (sort_of (length program.structs) result ≡ Scalar) ⊎ (result ≡ type.Void)) where
-    pub heads_typed : (b : Bool) (here : Here) (test : Option Written) (step : Lines) (body : Line) (ls : Lines) (ss : List Stmt) → IsHere program slots base here (λ n. takes_along n ls (tail test step body n)) → AreProper ls → AreDeclared slots base (heads_behind scope frame here test step body ls).locals → heads_made rules scope frame here test step body ls ≡ Right ss → AreTyped program slots result b (codes_of ss)
+    pub heads_typed : (b : Bool) (here : Here) (test : Option Written) (step : Lines) (body : Line) (ls : Lines) (ss : List Stmt) → IsHere program slots base here (λ n. takes_along n ls (tail test step body n)) → AreProper ls → AreDeclared slots base (heads_behind scope frame here (tail_of test step body) ls).locals → heads_made (setting_of rules scope frame) here (tail_of test step body) ls ≡ Right ss → AreTyped program slots result b (codes_of ss)
     unfolding heads_behind heads_made
     heads_typed b here test step body Lines.End ss h proper declared e = subst (λ xs. AreTyped program slots result b (codes_of xs)) (same_right [] ss e) tt
     heads_typed b here test step body (Lines.Then l ls) ss h proper declared e =
-        let t = head_taken l ls test step body in
+        let t = head_taken l ls (tail_of test step body) in
         let next : Here = simple_behind scope frame here t l in
         let behind : List ℕ → Bool = λ n. takes_along n ls (tail test step body n) in
-        let first = declared_before slots base next.locals (heads_behind scope frame next test step body ls).locals _ (heads_grow scope frame next test step body ls).locals_are declared in
-        let parts = both_right (simple_made rules scope frame no_jumps here t l) (heads_made rules scope frame next test step body ls) appended ss e in
+        let first = declared_before slots base next.locals (heads_behind scope frame next (tail_of test step body) ls).locals _ (heads_grow scope frame next test step body ls).locals_are declared in
+        let parts = both_right (simple_made (setting_of rules scope frame) no_jumps here t l) (heads_made (setting_of rules scope frame) next (tail_of test step body) ls) appended ss e in
         let one = simple_typed program slots base scope frame known rules sound result here no_jumps t b l behind parts.left gives given (λ f. absurd (true≢false (sym f))) h proper.0 (told_head l ls test step body) first parts.first in
         let rest = heads_typed b next test step body ls parts.right (simple_here here t l behind h proper.0 (told_head l ls test step body) first) proper.1 declared parts.second in
         subst (λ xs. AreTyped program slots result b (codes_of xs)) (same_right _ _ parts.made) (typed_both program slots result b parts.left parts.right one rest)
 
-    pub steps_typed : (b : Bool) (here : Here) (ls : Lines) (ss : List Stmt) → IsHere program slots base here (λ n. takes_along n ls false) → AreStatements ls → AreProper ls → AreDeclared slots base (steps_behind scope frame here ls).locals → steps_made rules scope frame here ls ≡ Right ss → AreTyped program slots result b (codes_of ss)
+    pub steps_typed : (b : Bool) (here : Here) (ls : Lines) (ss : List Stmt) → IsHere program slots base here (λ n. takes_along n ls false) → AreStatements ls → AreProper ls → AreDeclared slots base (steps_behind scope frame here ls).locals → steps_made (setting_of rules scope frame) here ls ≡ Right ss → AreTyped program slots result b (codes_of ss)
     steps_typed b here Lines.End ss h s proper declared e = subst (λ xs. AreTyped program slots result b (codes_of xs)) (same_right [] ss e) tt
     steps_typed b here (Lines.Then l ls) ss h s proper declared e =
         simple_typed program slots base scope frame known rules sound result here no_jumps false b l (λ n. takes_along n ls false) ss gives given (λ f. absurd (true≢false (sym f))) h proper.0 (told_none false l (λ n. takes_along n ls false) s.0) declared e

@@ -28,6 +28,7 @@ use Rattle.mdr_body.specs.Labels.{labels_made, labels_behind}
 use Rattle.mdr_body.specs.Clauses.{clause_place, ends, is_last, label_kind, made_clause, no_clauses, sorted}
 use Rattle.mdr_body.specs.Locals.{with_local, is_taken, entered, left, numbered}
 use Rattle.mdr_body.specs.Addresses.{takes_in, perhaps_takes, takes_at, takes_along, clauses_take, hides}
+use Rattle.mdr_body.specs.Statements.{setting_of, standing_of, tail_of}
 use Rattle.mdr_body.specs.Statements.{Rules, stmt, single, condition, perhaps_condition, appended, pair, ForHead, heads_made, heads_behind, steps_made, steps_behind, for_head, behind_head, inner_jumps, loop_jumps, clause_jumps, jumps_before, block_of, as_part, if_of, while_of, for_of, do_of, switch_of, switch_by, tested_value, tested_at, line_behind, perhaps_behind, lines_behind, clauses_behind, line_made, perhaps_made, lines_made, clauses_made}
 use Rattle.mdr_sound.proofs.Rights.{same_right, after_right, both_right, demand_right}
 use Rattle.mdr_sound.specs.Rules.{AreSoundRules}
@@ -59,16 +60,16 @@ front_of_none l name e = or_both (takes_at name l) (not (hides name l) && false)
 
 -- the parts of the head of a `for`
 pub record IsHead (rules : Rules) (scope : Scope) (frame : Frame) (here : Here) (p : Place) (init : Lines) (test : Option Written) (step : Lines) (body : Line) (head : ForHead) : Type 0 where
-  pub first : heads_made rules scope frame here test step body init ≡ Right head.0.0
-  pub condition : perhaps_condition rules scope (heads_behind scope frame here test step body init) p test ≡ Right head.0.1
-  pub stepped : steps_made rules scope frame (heads_behind scope frame here test step body init) step ≡ Right head.1
+  pub first : heads_made (setting_of rules scope frame) here (tail_of test step body) init ≡ Right head.0.0
+  pub condition : perhaps_condition rules scope (heads_behind scope frame here (tail_of test step body) init) p test ≡ Right head.0.1
+  pub stepped : steps_made (setting_of rules scope frame) (heads_behind scope frame here (tail_of test step body) init) step ≡ Right head.1
 
-pub head_right : (rules : Rules) (scope : Scope) (frame : Frame) (here : Here) (p : Place) (init : Lines) (test : Option Written) (step : Lines) (body : Line) (head : ForHead) → for_head rules scope frame here p init test step body ≡ Right head → IsHead rules scope frame here p init test step body head
+pub head_right : (rules : Rules) (scope : Scope) (frame : Frame) (here : Here) (p : Place) (init : Lines) (test : Option Written) (step : Lines) (body : Line) (head : ForHead) → for_head (setting_of rules scope frame) here p init (tail_of test step body) ≡ Right head → IsHead rules scope frame here p init test step body head
 unfolding for_head
 head_right rules scope frame here p init test step body head e =
-    let made = heads_made rules scope frame here test step body init in
-    let tested = perhaps_condition rules scope (heads_behind scope frame here test step body init) p test in
-    let outer = pair_right (both made tested pair) (steps_made rules scope frame (heads_behind scope frame here test step body init) step) head e in
+    let made = heads_made (setting_of rules scope frame) here (tail_of test step body) init in
+    let tested = perhaps_condition rules scope (heads_behind scope frame here (tail_of test step body) init) p test in
+    let outer = pair_right (both made tested pair) (steps_made (setting_of rules scope frame) (heads_behind scope frame here (tail_of test step body) init) step) head e in
     let inner = pair_right made tested head.0 outer.first in
     record { first = inner.first; condition = inner.second; stepped = outer.second }
 
@@ -88,16 +89,16 @@ module _ (program : Program) (slots : List Slot) (base : ℕ) (scope : Scope) (f
   part_here here l rest h s proper = here_same program slots base here (line_behind scope frame here false l) rest (line_grows scope frame here false l) (names_keep scope frame here false l s proper) h
 
   -- behind the head of a `for`
-  pub head_here : (here : Here) (init : Lines) (test : Option Written) (step : Lines) (body : Line) → IsHere program slots base (heads_behind scope frame here test step body init) (tail test step body) → AreStatements step → IsHere program slots base (behind_head scope frame here init test step body) (tail test step body)
+  pub head_here : (here : Here) (init : Lines) (test : Option Written) (step : Lines) (body : Line) → IsHere program slots base (heads_behind scope frame here (tail_of test step body) init) (tail test step body) → AreStatements step → IsHere program slots base (behind_head scope frame here init (tail_of test step body)) (tail test step body)
   unfolding behind_head
   head_here here init test step body h s =
-      let b : Here = heads_behind scope frame here test step body init in
+      let b : Here = heads_behind scope frame here (tail_of test step body) init in
       here_numbered program slots base (steps_behind scope frame b step) (tail test step body) (subst (λ x. IsHere program slots base x (tail test step body)) (sym (steps_same scope frame b step s)) h)
 
-  pub head_declared : (here : Here) (init : Lines) (test : Option Written) (step : Lines) (body : Line) → AreStatements step → AreDeclared slots base (line_behind scope frame (behind_head scope frame here init test step body) false body).locals → AreDeclared slots base (heads_behind scope frame here test step body init).locals
+  pub head_declared : (here : Here) (init : Lines) (test : Option Written) (step : Lines) (body : Line) → AreStatements step → AreDeclared slots base (line_behind scope frame (behind_head scope frame here init (tail_of test step body)) false body).locals → AreDeclared slots base (heads_behind scope frame here (tail_of test step body) init).locals
   unfolding behind_head
   head_declared here init test step body s declared =
-      let b : Here = heads_behind scope frame here test step body init in
+      let b : Here = heads_behind scope frame here (tail_of test step body) init in
       let c : Here = steps_behind scope frame b step in
       let g = grows_on b c _ (steps_grow scope frame b step) (grows_on c (numbered c) _ (grows_numbered c) (line_grows scope frame (numbered c) false body)) in
       declared_before slots base b.locals _ g.locals g.locals_are declared
@@ -139,12 +140,12 @@ module _ (program : Program) (slots : List Slot) (base : ℕ) (scope : Scope) (f
         (while_typed program slots result b n parts.left parts.right some (t parts.left parts.first) (h parts.right parts.second))
         parts.made
 
-    for_right : (b : Bool) (here : Here) (p : Place) (init : Lines) (test : Option Written) (next : Lines) (body : Line) (n : ℕ) (c : Checked (List Stmt)) (ss : List Stmt) → 1 ≤ n → IsHere program slots base here (λ m. takes_along m init (tail test next body m)) → AreProper init → PerhapsHasNumbers test → AreStatements next → AreProper next → AreDeclared slots base (line_behind scope frame (behind_head scope frame here init test next body) false body).locals → ((xs : List Stmt) → c ≡ Right xs → AreTyped program slots result true (codes_of xs)) → both (for_head rules scope frame here p init test next body) c (for_of n) ≡ Right ss → AreTyped program slots result b (codes_of ss)
+    for_right : (b : Bool) (here : Here) (p : Place) (init : Lines) (test : Option Written) (next : Lines) (body : Line) (n : ℕ) (c : Checked (List Stmt)) (ss : List Stmt) → 1 ≤ n → IsHere program slots base here (λ m. takes_along m init (tail test next body m)) → AreProper init → PerhapsHasNumbers test → AreStatements next → AreProper next → AreDeclared slots base (line_behind scope frame (behind_head scope frame here init (tail_of test next body)) false body).locals → ((xs : List Stmt) → c ≡ Right xs → AreTyped program slots result true (codes_of xs)) → both (for_head (setting_of rules scope frame) here p init (tail_of test next body)) c (for_of n) ≡ Right ss → AreTyped program slots result b (codes_of ss)
     for_right b here p init test next body n c ss some h proper numbers statements steps declared k e =
-        let all = both_right (for_head rules scope frame here p init test next body) c (for_of n) ss e in
+        let all = both_right (for_head (setting_of rules scope frame) here p init (tail_of test next body)) c (for_of n) ss e in
         let head = head_right rules scope frame here p init test next body all.left all.first in
         let declared_first = head_declared here init test next body statements declared in
-        let behind : Here = heads_behind scope frame here test next body init in
+        let behind : Here = heads_behind scope frame here (tail_of test next body) init in
         let inside = heads_here program slots base scope frame known here test next body init h proper declared_first in
         let tested = perhaps_right program slots base scope frame known rules sound result behind (tail test next body) test inside (λ m q. or_left (perhaps_takes m test) (takes_along m next false || takes_at m body) q) numbers in
         let before_step = here_less program slots base behind (tail test next body) (λ m. takes_along m next false) inside (λ m q. or_left (takes_along m next false) (takes_at m body) (or_right (perhaps_takes m test) (takes_along m next false || takes_at m body) q)) in
@@ -177,10 +178,10 @@ module _ (program : Program) (slots : List Slot) (base : ℕ) (scope : Scope) (f
     -- ---- all statements
 
     mutual
-      pub line_typed : (here : Here) (jumps : Jumps) (is_part t : Bool) (l : Line) (behind : List ℕ → Bool) (ss : List Stmt) → IsHere program slots base here (in_front l behind) → IsProper l → IsTold t l behind → AreDeclared slots base (line_behind scope frame here t l).locals → line_made rules scope frame jumps is_part here t l ≡ Right ss → AreTyped program slots result jumps.in_loop (codes_of ss)
+      pub line_typed : (here : Here) (jumps : Jumps) (is_part t : Bool) (l : Line) (behind : List ℕ → Bool) (ss : List Stmt) → IsHere program slots base here (in_front l behind) → IsProper l → IsTold t l behind → AreDeclared slots base (line_behind scope frame here t l).locals → line_made (setting_of rules scope frame) (standing_of jumps is_part t) here l ≡ Right ss → AreTyped program slots result jumps.in_loop (codes_of ss)
       line_typed here jumps is_part t (Line.Block p ls) behind ss h proper told declared e =
           let inside = here_entered program slots base here (λ n. takes_along n ls false) (here_less program slots base here _ (λ n. takes_along n ls false) h (λ name q. or_left (takes_along name ls false) (behind name) q)) in
-          part_typed jumps.in_loop is_part (lines_made rules scope frame (inner_jumps jumps) (entered here) ls) ss (λ xs q. lines_typed (entered here) (inner_jumps jumps) ls xs inside proper declared q) e
+          part_typed jumps.in_loop is_part (lines_made (setting_of rules scope frame) (inner_jumps jumps) (entered here) ls) ss (λ xs q. lines_typed (entered here) (inner_jumps jumps) ls xs inside proper declared q) e
       line_typed here jumps is_part t (Line.If p w one other) behind ss h proper told declared e =
           let b : Here = line_behind scope frame (numbered here) false one in
           let all = here_less program slots base here _ (λ n. takes_in n w || (takes_at n one || takes_along n other false)) h (λ name q. or_left (takes_in name w || (takes_at name one || takes_along name other false)) (behind name) q) in
@@ -189,7 +190,7 @@ module _ (program : Program) (slots : List Slot) (base : ℕ) (scope : Scope) (f
           let second = part_here (numbered here) one (λ n. takes_along n other false) (here_less program slots base (numbered here) _ (λ n. takes_along n other false) parts (λ name q. or_right (takes_at name one) (takes_along name other false) q)) proper.1.0.0 proper.1.0.1 in
           let declared_first = declared_before slots base b.locals (perhaps_behind scope frame b other).locals _ (perhaps_grow scope frame b other).locals_are declared in
           let right = written_right program slots base scope frame known rules sound result here _ w all (λ name q. or_left (takes_in name w) _ q) proper.0 in
-          if_right jumps.in_loop here.number (condition rules scope here p w) (line_made rules scope frame (inner_jumps jumps) true (numbered here) false one) (perhaps_made rules scope frame (inner_jumps jumps) b other) ss h.number
+          if_right jumps.in_loop here.number (condition rules scope here p w) (line_made (setting_of rules scope frame) (standing_of (inner_jumps jumps) true false) (numbered here) one) (perhaps_made (setting_of rules scope frame) (inner_jumps jumps) b other) ss h.number
           (λ x q. condition_typed program slots scope rules sound here p w x h.knows right q)
           (λ xs q. line_typed (numbered here) (inner_jumps jumps) true false one (λ n. false) xs first proper.1.0.1 (told_none false one (λ n. false) proper.1.0.0) declared_first q)
           (λ xs q. perhaps_typed b (inner_jumps jumps) other xs second proper.1.1.0 proper.1.1.1 declared q)
@@ -198,16 +199,16 @@ module _ (program : Program) (slots : List Slot) (base : ℕ) (scope : Scope) (f
           let all = here_less program slots base here _ (λ n. takes_in n w || takes_at n body) h (λ name q. or_left (takes_in name w || takes_at name body) (behind name) q) in
           let inside = here_numbered program slots base here _ (here_less program slots base here _ (in_front body (λ n. false)) all (λ name q. front_of_none body name (or_right (takes_in name w) (takes_at name body) q))) in
           let right = written_right program slots base scope frame known rules sound result here _ w all (λ name q. or_left (takes_in name w) _ q) proper.0 in
-          while_right jumps.in_loop here.number (condition rules scope here p w) (line_made rules scope frame loop_jumps true (numbered here) false body) ss h.number
+          while_right jumps.in_loop here.number (condition rules scope here p w) (line_made (setting_of rules scope frame) (standing_of loop_jumps true false) (numbered here) body) ss h.number
           (λ x q. condition_typed program slots scope rules sound here p w x h.knows right q)
           (λ xs q. line_typed (numbered here) loop_jumps true false body (λ n. false) xs inside proper.1.1 (told_none false body (λ n. false) proper.1.0) declared q)
           e
       line_typed here jumps is_part t (Line.For p init test next body) behind ss h proper told declared e =
           let all = here_entered program slots base here _ (here_less program slots base here _ (λ n. takes_along n init (tail test next body n)) h (λ name q. or_left (takes_along name init (tail test next body name)) (behind name) q)) in
           let first = heads_here program slots base scope frame known (entered here) test next body init all proper.0.0 (head_declared (entered here) init test next body proper.1.0.0 declared) in
-          let b : Here = behind_head scope frame (entered here) init test next body in
+          let b : Here = behind_head scope frame (entered here) init (tail_of test next body) in
           let inside = here_less program slots base b (tail test next body) (in_front body (λ n. false)) (head_here (entered here) init test next body first proper.1.0.0) (λ name q. front_of_none body name (or_right (takes_along name next false) (takes_at name body) (or_right (perhaps_takes name test) (takes_along name next false || takes_at name body) q))) in
-          for_right jumps.in_loop (entered here) p init test next body here.number (line_made rules scope frame loop_jumps true b false body) ss h.number all proper.0.0 proper.0.1 proper.1.0.0 proper.1.0.1 declared
+          for_right jumps.in_loop (entered here) p init test next body here.number (line_made (setting_of rules scope frame) (standing_of loop_jumps true false) b body) ss h.number all proper.0.0 proper.0.1 proper.1.0.0 proper.1.0.1 declared
           (λ xs q. line_typed b loop_jumps true false body (λ n. false) xs inside proper.1.1.1 (told_none false body (λ n. false) proper.1.1.0) declared q)
           e
       line_typed here jumps is_part t (Line.Do p body w) behind ss h proper told declared e =
@@ -217,7 +218,7 @@ module _ (program : Program) (slots : List Slot) (base : ℕ) (scope : Scope) (f
           let inside = here_less program slots base (numbered here) _ (in_front body (λ n. false)) parts (λ name q. front_of_none body name (or_left (takes_at name body) (takes_in name w) q)) in
           let rest = part_here (numbered here) body (λ n. takes_in n w) (here_less program slots base (numbered here) _ (λ n. takes_in n w) parts (λ name q. or_right (takes_at name body) (takes_in name w) q)) proper.0.0 proper.0.1 in
           let right = written_right program slots base scope frame known rules sound result there _ w rest (λ name q. q) proper.1 in
-          do_right jumps.in_loop here.number (line_made rules scope frame loop_jumps true (numbered here) false body) (condition rules scope there p w) ss h.number
+          do_right jumps.in_loop here.number (line_made (setting_of rules scope frame) (standing_of loop_jumps true false) (numbered here) body) (condition rules scope there p w) ss h.number
           (λ xs q. line_typed (numbered here) loop_jumps true false body (λ n. false) xs inside proper.0.1 (told_none false body (λ n. false) proper.0.0) declared q)
           (λ x q. condition_typed program slots scope rules sound there p w x rest.knows right q)
           e
@@ -226,32 +227,32 @@ module _ (program : Program) (slots : List Slot) (base : ℕ) (scope : Scope) (f
           let all = here_less program slots base here _ (λ n. takes_in n w || clauses_take n cs) h (λ name q. or_left (takes_in name w || clauses_take name cs) (behind name) q) in
           let inside = here_numbered program slots base here _ (here_less program slots base here _ (λ n. clauses_take n cs) all (λ name q. or_right (takes_in name w) (clauses_take name cs) q)) in
           let right = written_right program slots base scope frame known rules sound result here _ w all (λ name q. or_left (takes_in name w) _ q) proper.0 in
-          switch_right jumps.in_loop here.number tested (clauses_made rules scope frame (clause_jumps jumps) (numbered here) (tested_at p tested) [] cs) ss h.number
+          switch_right jumps.in_loop here.number tested (clauses_made (setting_of rules scope frame) (clause_jumps jumps) (numbered here) (tested_at p tested) [] cs) ss h.number
           (λ v q. value_typed program slots scope rules sound here p w v h.knows right q)
           (λ v ms q r. subst (λ k. AreMade program slots result jumps.in_loop k ms) (ap label_kind q) (clauses_typed (numbered here) (clause_jumps jumps) (tested_at p tested) [] cs ms inside proper.1 declared r))
           e
       line_typed here jumps is_part t l behind ss h proper told declared e =
           simple_typed program slots base scope frame known rules sound result here jumps t jumps.in_loop l behind ss gives given (λ q. q) h proper told declared e
 
-      pub perhaps_typed : (here : Here) (jumps : Jumps) (ls : Lines) (ss : List Stmt) → IsHere program slots base here (λ n. takes_along n ls false) → AreStatements ls → AreProper ls → AreDeclared slots base (perhaps_behind scope frame here ls).locals → perhaps_made rules scope frame jumps here ls ≡ Right ss → AreTyped program slots result jumps.in_loop (codes_of ss)
+      pub perhaps_typed : (here : Here) (jumps : Jumps) (ls : Lines) (ss : List Stmt) → IsHere program slots base here (λ n. takes_along n ls false) → AreStatements ls → AreProper ls → AreDeclared slots base (perhaps_behind scope frame here ls).locals → perhaps_made (setting_of rules scope frame) jumps here ls ≡ Right ss → AreTyped program slots result jumps.in_loop (codes_of ss)
       perhaps_typed here jumps Lines.End ss h s proper declared e = subst (λ xs. AreTyped program slots result jumps.in_loop (codes_of xs)) (same_right [] ss e) tt
       perhaps_typed here jumps (Lines.Then l ls) ss h s proper declared e = line_typed here jumps true false l (λ n. takes_along n ls false) ss h proper.0 (told_none false l (λ n. takes_along n ls false) s.0) declared e
 
-      pub lines_typed : (here : Here) (jumps : Jumps) (ls : Lines) (ss : List Stmt) → IsHere program slots base here (λ n. takes_along n ls false) → AreProper ls → AreDeclared slots base (lines_behind scope frame here ls).locals → lines_made rules scope frame jumps here ls ≡ Right ss → AreTyped program slots result jumps.in_loop (codes_of ss)
+      pub lines_typed : (here : Here) (jumps : Jumps) (ls : Lines) (ss : List Stmt) → IsHere program slots base here (λ n. takes_along n ls false) → AreProper ls → AreDeclared slots base (lines_behind scope frame here ls).locals → lines_made (setting_of rules scope frame) jumps here ls ≡ Right ss → AreTyped program slots result jumps.in_loop (codes_of ss)
       lines_typed here jumps Lines.End ss h proper declared e = subst (λ xs. AreTyped program slots result jumps.in_loop (codes_of xs)) (same_right [] ss e) tt
       lines_typed here jumps (Lines.Then l ls) ss h proper declared e =
           let t = is_taken l ls in
           let b : Here = line_behind scope frame here t l in
           let first = declared_before slots base b.locals (lines_behind scope frame b ls).locals _ (lines_grow scope frame b ls).locals_are declared in
           let next = line_here here t l (λ n. takes_along n ls false) h proper.0 (told_line l ls) first in
-          joined_typed jumps.in_loop (line_made rules scope frame (jumps_before jumps ls) false here t l) (lines_made rules scope frame jumps b ls) ss
+          joined_typed jumps.in_loop (line_made (setting_of rules scope frame) (standing_of (jumps_before jumps ls) false t) here l) (lines_made (setting_of rules scope frame) jumps b ls) ss
           (λ xs q. subst (λ b. AreTyped program slots result b (codes_of xs)) (before_same jumps ls) (line_typed here (jumps_before jumps ls) false t l (λ n. takes_along n ls false) xs h proper.0 (told_line l ls) first q))
           (λ xs q. lines_typed b jumps ls xs next proper.1 declared q)
           e
 
       -- each clause in front of those behind it
       pub clauses_typed : (here : Here) (jumps : Jumps) (at : Tested) (seen : List CaseLabel) (cs : Clauses) (ms : List MadeClause) → IsHere program slots base here (λ n. clauses_take n cs) → AreProperClauses cs → AreDeclared slots base (clauses_behind scope frame here cs).locals
-          → clauses_made rules scope frame jumps here at seen cs ≡ Right ms → AreMade program slots result jumps.in_loop at.kind ms
+          → clauses_made (setting_of rules scope frame) jumps here at seen cs ≡ Right ms → AreMade program slots result jumps.in_loop at.kind ms
       clauses_typed here jumps at seen Clauses.NoPart ms h proper declared e = subst (AreMade program slots result jumps.in_loop at.kind) (same_right [] ms e) tt
       clauses_typed here jumps at seen (Clauses.Part labels ls cs) ms h proper declared e =
           let inner : Here = lines_behind scope frame (entered here) ls in
@@ -261,9 +262,9 @@ module _ (program : Program) (slots : List Slot) (base : ℕ) (scope : Scope) (f
           let grown = lines_grow scope frame (entered here) ls in
           let next = here_same program slots base here there (λ n. clauses_take n cs) (grows_left here inner grown) (left_keeps here inner grown) rest in
           let first = declared_before slots base inner.locals (clauses_behind scope frame there cs).locals _ (clauses_grow scope frame there cs).locals_are declared in
-          let made = lines_made rules scope frame jumps (entered here) ls in
+          let made = lines_made (setting_of rules scope frame) jumps (entered here) ls in
           let one = both (labels_made scope here.names at.kind seen labels) (demand (clause_place at.place labels) Mismatch (ends ls (is_last cs)) made) (made_clause at.kind) in
-          let all = both_right one (clauses_made rules scope frame jumps there at (labels_behind scope here.names at.kind seen labels) cs) appended ms e in
+          let all = both_right one (clauses_made (setting_of rules scope frame) jumps there at (labels_behind scope here.names at.kind seen labels) cs) appended ms e in
           let own = both_right (labels_made scope here.names at.kind seen labels) (demand (clause_place at.place labels) Mismatch (ends ls (is_last cs)) made) (made_clause at.kind) all.left all.first in
           let body = demand_right (clause_place at.place labels) Mismatch (ends ls (is_last cs)) made own.right own.second in
           subst (AreMade program slots result jumps.in_loop at.kind) (same_right _ _ all.made)

@@ -28,7 +28,7 @@ use Rattle.mdr_body.specs.declared.here.Frame.{Frame}
 use Rattle.mdr_body.specs.declared.here.Here.{Here}
 use Rattle.mdr_body.specs.Bodies.{declared_locals, frame_of, body_of, body_by, body_rule}
 use Rattle.mdr_body.specs.Locals.{struct_locks, parameter_taken, first_here}
-use Rattle.mdr_body.specs.Statements.{Rules, no_jumps, lines_behind, lines_made}
+use Rattle.mdr_body.specs.Statements.{setting_of, Rules, no_jumps, lines_behind, lines_made}
 use Rattle.mdr_lower.specs.Lowering.{lowered}
 use Rattle.mdr_lower.proofs.Typed.{IsNew, AreNew, body_shaped, body_typed, new_slots, new_at}
 use Rattle.mdr_program.specs.Parts.{marked}
@@ -79,12 +79,12 @@ heading_right scope h g e =
 
 pub record IsBodied (rules : Rules) (scope : Scope) (frame : Frame) (here : Here) (objects : List Bool) (ls : Lines) (body : Body) : Type 0 where
   pub locals : declared_locals (lines_behind scope frame here ls).locals ≡ Right body.locals
-  pub statements : lines_made rules scope frame no_jumps here ls ≡ Right body.statements
+  pub statements : lines_made (setting_of rules scope frame) no_jumps here ls ≡ Right body.statements
   pub marks : objects ≡ body.objects
 
-body_right : (rules : Rules) (scope : Scope) (frame : Frame) (here : Here) (objects : List Bool) (ls : Lines) (body : Body) → body_by rules scope frame here objects ls ≡ Right body → IsBodied rules scope frame here objects ls body
+body_right : (rules : Rules) (scope : Scope) (frame : Frame) (here : Here) (objects : List Bool) (ls : Lines) (body : Body) → body_by (setting_of rules scope frame) here objects ls ≡ Right body → IsBodied rules scope frame here objects ls body
 body_right rules scope frame here objects ls body e =
-    let b = both_right (declared_locals (lines_behind scope frame here ls).locals) (lines_made rules scope frame no_jumps here ls) (body_of objects) body e in
+    let b = both_right (declared_locals (lines_behind scope frame here ls).locals) (lines_made (setting_of rules scope frame) no_jumps here ls) (body_of objects) body e in
     subst (λ x. IsBodied rules scope frame here objects ls x) (same_right (record { objects = objects; locals = b.left; statements = b.right }) body b.made)
     (record { locals = b.first; statements = b.second; marks = refl })
 
@@ -112,7 +112,7 @@ module _ (program : Program) (rules : Rules) (scope : Scope) (h : Head) (nodes :
   unfolding frame_of
   result_told t e = ap told e
 
-  made_typed : (outer : Scope) → outer.tags ≡ scope.tags → (g : Heading) (siblings : List Candidate) (locals : List Local) (ss : List Stmt) → IsHeaded outer siblings h g → ((slots : List Slot) → AreSoundRules program slots scope rules) → AreNamed h.params → AreProper (lines_of nodes) → declared_locals (lines_behind scope (frame_of scope h) (first_here scope (lines_of nodes) h.params) (lines_of nodes)).locals ≡ Right locals → lines_made rules scope (frame_of scope h) no_jumps (first_here scope (lines_of nodes) h.params) (lines_of nodes) ≡ Right ss → AreTyped program (map slot_of_param (marked (map (parameter_taken (lines_of nodes)) h.params) 0 g.params) ++ map slot_of_local locals) g.result false (codes_of ss)
+  made_typed : (outer : Scope) → outer.tags ≡ scope.tags → (g : Heading) (siblings : List Candidate) (locals : List Local) (ss : List Stmt) → IsHeaded outer siblings h g → ((slots : List Slot) → AreSoundRules program slots scope rules) → AreNamed h.params → AreProper (lines_of nodes) → declared_locals (lines_behind scope (frame_of scope h) (first_here scope (lines_of nodes) h.params) (lines_of nodes)).locals ≡ Right locals → lines_made (setting_of rules scope (frame_of scope h)) no_jumps (first_here scope (lines_of nodes) h.params) (lines_of nodes) ≡ Right ss → AreTyped program (map slot_of_param (marked (map (parameter_taken (lines_of nodes)) h.params) 0 g.params) ++ map slot_of_local locals) g.result false (codes_of ss)
   made_typed outer tags g siblings locals ss headed sound named proper declared made =
       let ls : Lines = lines_of nodes in
       let here : Here = first_here scope ls h.params in

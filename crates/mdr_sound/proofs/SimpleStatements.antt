@@ -34,6 +34,7 @@ use Rattle.mdr_body.specs.declared.here.Here.{Here}
 use Rattle.mdr_body.specs.declared.here.Jumps.{Jumps}
 use Rattle.mdr_body.specs.Locals.{local_object, local_of, is_own_object, with_local}
 use Rattle.mdr_body.specs.Addresses.{takes_in, perhaps_takes, takes_at}
+use Rattle.mdr_body.specs.Statements.{setting_of, target_of}
 use Rattle.mdr_body.specs.Statements.{Rules, stmt, single, stated, text_of, takes_text, is_single, own_place, initial_by, initial_step, declared_then, local_made, jumped, broken_by, broken, return_by, return_step, simple_made, simple_behind}
 use Rattle.mdr_sound.specs.Knowing.{KnowsLocals, HasNumbers, IsFormed}
 use Rattle.mdr_sound.proofs.Layers.{int_from}
@@ -166,7 +167,7 @@ module _ (program : Program) (slots : List Slot) (base : ℕ) (scope : Scope) (f
   scalar_result t (inl h) e = h
   scalar_result t (inr h) e = let is : is_void t ≡ true = ap is_void h ∙ void_is_void in absurd cc
 
-  return_by_sound : (here : Here) (p : Place) (w : Option Written) (t : Ty) (s : Step) → KnowsLocals program slots here.names → ((v : Written) → w ≡ Some v → IsRight here.names v) → (sort_of (length program.structs) t ≡ Scalar) ⊎ (t ≡ type.Void) → return_by rules scope here p w t ≡ Right s → IsSoundStep program slots t s
+  return_by_sound : (here : Here) (p : Place) (w : Option Written) (t : Ty) (s : Step) → KnowsLocals program slots here.names → ((v : Written) → w ≡ Some v → IsRight here.names v) → (sort_of (length program.structs) t ≡ Scalar) ⊎ (t ≡ type.Void) → return_by (rules.returned scope here.names) p w t ≡ Right s → IsSoundStep program slots t s
   return_by_sound here p None t s knows right given e =
       let c = chosen_right (is_void t) (Right (step.Return None)) p Mismatch s e in
       subst (λ x. IsSoundStep program slots t x) (same_right _ _ c.right) (nothing_sound program slots t (void_is t c.holds))
@@ -174,12 +175,12 @@ module _ (program : Program) (slots : List Slot) (base : ℕ) (scope : Scope) (f
       let c = refused_right (is_void t) (rules.returned scope here.names p t w) p Mismatch s e in
       sound.returned here.names p t w s knows (right w refl) (scalar_result t given c.fails) c.right
 
-  pub return_sound : (here : Here) (p : Place) (w : Option Written) (s : Step) → frame.result ≡ Ok result → (sort_of (length program.structs) result ≡ Scalar) ⊎ (result ≡ type.Void) → KnowsLocals program slots here.names → ((v : Written) → w ≡ Some v → IsRight here.names v) → return_step rules scope frame here p w ≡ Right s → IsSoundStep program slots result s
+  pub return_sound : (here : Here) (p : Place) (w : Option Written) (s : Step) → frame.result ≡ Ok result → (sort_of (length program.structs) result ≡ Scalar) ⊎ (result ≡ type.Void) → KnowsLocals program slots here.names → ((v : Written) → w ≡ Some v → IsRight here.names v) → return_step (setting_of rules scope frame) here p w ≡ Right s → IsSoundStep program slots result s
   unfolding return_step
   return_sound here p w s gives given knows right e =
-      let a = after_right (again frame.result) (return_by rules scope here p w) s e in
+      let a = after_right (again frame.result) (return_by (rules.returned scope here.names) p w) s e in
       let same : a.value ≡ result = same_ok _ _ (sym (again_right frame.result a.value a.right) ∙ gives) in
-      return_by_sound here p w result s knows right given (ap (return_by rules scope here p w) (sym same) ∙ a.made)
+      return_by_sound here p w result s knows right given (ap (return_by (rules.returned scope here.names) p w) (sym same) ∙ a.made)
 
   -- ---- locals
 
@@ -190,7 +191,7 @@ module _ (program : Program) (slots : List Slot) (base : ℕ) (scope : Scope) (f
   own_by i t d o true own single names = subst (λ l. Designates program slots l (One o.ty)) (sym (object_is i o.ty)) (record { slot = slot_of_local (local_of t d o); names = names; kept = own; is = ap (λ a. extent a o.ty o.count) (sym single) }, refl)
   own_by i t d o false own single names = subst (λ l. Designates program slots l (One o.ty)) (sym (slot_is i o.ty)) (record { slot = slot_of_local (local_of t d o); names = names; kept = own; is = ap (λ a. extent a o.ty o.count) (sym single) }, refl)
 
-  initial_by_sound : (names : List LocalName) (p : Place) (i : ℕ) (t : Bool) (d : Decl) (w : Written) (text : Option (List ℕ)) (o : Object) (s : Step) → KnowsLocals program slots names → IsRight names w → IsFormed program o.ty → slice_get slots i ≡ Some (slot_of_local (local_of t d o)) → initial_by rules scope names p i t w text o ≡ Right s → IsSoundStep program slots result s
+  initial_by_sound : (names : List LocalName) (p : Place) (i : ℕ) (t : Bool) (d : Decl) (w : Written) (text : Option (List ℕ)) (o : Object) (s : Step) → KnowsLocals program slots names → IsRight names w → IsFormed program o.ty → slice_get slots i ≡ Some (slot_of_local (local_of t d o)) → initial_by (rules.stored scope names) (target_of p i t) w text o ≡ Right s → IsSoundStep program slots result s
   initial_by_sound names p i t d w (Some bytes) o s knows right formed at e =
       let c = chosen_right (takes_text o (length bytes)) (Right (step.Text i bytes)) p Mismatch s e in
       let rest = and_second (is_character o.ty) (o.array && not (nat_lt o.count (length bytes))) c.holds in
@@ -210,20 +211,20 @@ module _ (program : Program) (slots : List Slot) (base : ℕ) (scope : Scope) (f
       (formed_scalar program o.ty formed (and_first (is_scalar o.ty) (not o.array) c.holds))
       c.right
 
-  pub initial_sound : (here : Here) (t : Bool) (d : Decl) (w : Written) (s : Step) → IsAt slots scope frame.locks here.slot t d → KnowsLocals program slots (with_local scope frame.locks t d here).names → IsRight (with_local scope frame.locks t d here).names w → initial_step rules scope frame here t d w ≡ Right s → IsSoundStep program slots result s
+  pub initial_sound : (here : Here) (t : Bool) (d : Decl) (w : Written) (s : Step) → IsAt slots scope frame.locks here.slot t d → KnowsLocals program slots (with_local scope frame.locks t d here).names → IsRight (with_local scope frame.locks t d here).names w → initial_step (setting_of rules scope frame) here t d w ≡ Right s → IsSoundStep program slots result s
   unfolding initial_step
   initial_sound here t d w s at knows right e =
       let names = (with_local scope frame.locks t d here).names in
-      let a = after_right (local_object scope frame.locks d) (initial_by rules scope names (out-Decl d).place here.slot t w (text_of w)) s e in
+      let a = after_right (local_object scope frame.locks d) (initial_by (rules.stored scope names) (target_of (out-Decl d).place here.slot t) w (text_of w)) s e in
       let object = local_object_right scope frame.locks d a.value a.right in
       initial_by_sound names (out-Decl d).place here.slot t d w (text_of w) a.value s knows right (known.formed (out-Decl d).place d a.value object.object)
       (at_object slots scope frame.locks here.slot t d a.value at a.right) a.made
 
-  local_typed : (here : Here) (t b : Bool) (d : Decl) (init : Option Written) (ss : List Stmt) → 1 ≤ here.number → IsAt slots scope frame.locks here.slot t d → KnowsLocals program slots (with_local scope frame.locks t d here).names → ((v : Written) → init ≡ Some v → IsRight (with_local scope frame.locks t d here).names v) → local_made rules scope frame here t d init ≡ Right ss → AreTyped program slots result b (codes_of ss)
+  local_typed : (here : Here) (t b : Bool) (d : Decl) (init : Option Written) (ss : List Stmt) → 1 ≤ here.number → IsAt slots scope frame.locks here.slot t d → KnowsLocals program slots (with_local scope frame.locks t d here).names → ((v : Written) → init ≡ Some v → IsRight (with_local scope frame.locks t d here).names v) → local_made (setting_of rules scope frame) here t d init ≡ Right ss → AreTyped program slots result b (codes_of ss)
   unfolding local_made
   local_typed here t b d None ss some at knows right e = step_typed program slots result here.number (step.Declare here.slot) ss b (declare_sound program slots result here.slot (is_local here.slot t d at)) some e
   local_typed here t b d (Some w) ss some at knows right e =
-      let a = after_right (initial_step rules scope frame here t d w) (declared_then here.number here.slot) ss e in
+      let a = after_right (initial_step (setting_of rules scope frame) here t d w) (declared_then here.number here.slot) ss e in
       subst (λ xs. AreTyped program slots result b (codes_of xs)) (same_right _ _ a.made) (
         declare_sound program slots result here.slot (is_local here.slot t d at) here.number b some,
         (initial_sound here t d w a.value at knows (right w refl) a.right here.number b some, tt),
@@ -245,7 +246,7 @@ module _ (program : Program) (slots : List Slot) (base : ℕ) (scope : Scope) (f
   pub written_right : (here : Here) (r : List ℕ → Bool) (w : Written) → IsHere program slots base here r → ((name : List ℕ) → r name ≡ false → takes_in name w ≡ false) → HasNumbers w → IsRight here.names w
   written_right here r w h less numbers = record { numbers = numbers; no_slot = takes_no_slot program slots base here r w h less }
 
-  pub simple_typed : (here : Here) (jumps : Jumps) (t b : Bool) (l : Line) (behind : List ℕ → Bool) (ss : List Stmt) → frame.result ≡ Ok result → (sort_of (length program.structs) result ≡ Scalar) ⊎ (result ≡ type.Void) → (jumps.in_loop ≡ true → b ≡ true) → IsHere program slots base here (in_front l behind) → IsProper l → IsTold t l behind → AreDeclared slots base (simple_behind scope frame here t l).locals → simple_made rules scope frame jumps here t l ≡ Right ss → AreTyped program slots result b (codes_of ss)
+  pub simple_typed : (here : Here) (jumps : Jumps) (t b : Bool) (l : Line) (behind : List ℕ → Bool) (ss : List Stmt) → frame.result ≡ Ok result → (sort_of (length program.structs) result ≡ Scalar) ⊎ (result ≡ type.Void) → (jumps.in_loop ≡ true → b ≡ true) → IsHere program slots base here (in_front l behind) → IsProper l → IsTold t l behind → AreDeclared slots base (simple_behind scope frame here t l).locals → simple_made (setting_of rules scope frame) jumps here t l ≡ Right ss → AreTyped program slots result b (codes_of ss)
   simple_typed here jumps t b (Line.Empty p) behind ss gives given inside h proper told declared e = step_typed program slots result here.number step.Empty ss b (empty_sound program slots result) h.number e
   simple_typed here jumps t b (Line.Block p ls) behind ss gives given inside h proper told declared e = not_right _ ss e
   simple_typed here jumps t b (Line.Local p d init) behind ss gives given inside h proper told declared e =

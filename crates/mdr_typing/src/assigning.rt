@@ -11,13 +11,15 @@ ghost use Rattle.mdr_assign.specs.declared.assignment.Destination.{Destination};
 ghost use Rattle.mdr_typing.specs.declared.source.Source.{Source};
 ghost use Rattle.mdr_typing.specs.declared.source.Source.TheVariants as source;
 ghost use Rattle.mdr_typing.specs.Sources.{assigning, source_stored, is_plain, value_assigned, call_assigned, source_assigned};
-ghost use Rattle.mdr_typing.specs.Profile.{assigned, calling, stepped, called};
+ghost use Rattle.mdr_body.specs.Pieces.{assigned_by};
+ghost use Rattle.mdr_typing.specs.Profile.{calling, stepped, called, profile_rules};
 
 use crate::source::{Source, right_side, source_stored};
 use mdr_assign::{
     Assignment, Destination, assignment_rule, destination_at, step_operator, step_rule,
     told_instead,
 };
+use mdr_body::Known;
 use mdr_call::{TypedCall, call_value};
 use mdr_core::{Name, OutOfMemory, Place};
 use mdr_express::{both_made, call_at, expression};
@@ -179,18 +181,15 @@ fn sides_assigned(
 #[tactic(auto, unfolding(crate::specs::Profile::assigned))]
 pub fn assigned(
     alloc: Global,
-    scope: &Scope,
-    locals: &[LocalName],
-    at: Place,
-    operator: &[u8],
-    left: &Form,
-    right: &Form,
+    known: Known,
+    assignment: mdr_body::Assignment,
 ) -> Result<Result<Step, Fault>, OutOfMemory>
-    ensures { IfOk result (λ r. r ≡ told (assigned scope.now locals.now at operator.now (written_of left.now) (written_of right.now))) }
+    ensures { IfOk result (λ r. r ≡ told (assigned_by profile_rules known.entry.scope.now known.entry.locals.now assignment.entry)) }
 {
-    let x = expression(alloc, scope, locals, left);
-    let y = right_side(alloc, scope, locals, right);
-    sides_assigned(alloc, scope, at, assignment_operator(operator), x, y)
+    let x = expression(alloc, known.scope, known.locals, assignment.left);
+    let y = right_side(alloc, known.scope, known.locals, assignment.right);
+    let op = assignment_operator(assignment.operator);
+    sides_assigned(alloc, known.scope, assignment.at, op, x, y)
 }
 
 // ---- statements that are expressions

@@ -10,11 +10,11 @@ ghost use Rattle.mdr_typing.specs.Profile.{stored, returned};
 use crate::assigning::{assigned, called};
 use crate::source::{Source, right_side, source_returned, source_stored};
 use mdr_assign::told_instead;
-use mdr_body::Typing;
+use mdr_body::{Assignment, Known, Placed, Typing};
 use mdr_core::{OutOfMemory, Place, Ty};
 use mdr_express::{expression, left_over};
-use mdr_faults::{Fault, Scope};
-use mdr_operand::{LocalName, Operand};
+use mdr_faults::Fault;
+use mdr_operand::Operand;
 use mdr_rich::{Lval, Step};
 use mdr_syntax::Form;
 use std::alloc::{AllocError, Global};
@@ -54,17 +54,15 @@ fn stored_where(
 #[tactic(auto, unfolding(crate::specs::Profile::stored))]
 fn stored(
     alloc: Global,
-    scope: &Scope,
-    locals: &[LocalName],
-    place: Place,
+    known: Known,
     object: Lval,
     ty: &Ty,
-    form: &Form,
+    value: Placed,
 ) -> Result<Result<Step, Fault>, OutOfMemory>
-    ensures { IfOk result (λ r. r ≡ told (stored scope.now locals.now place object ty.now (written_of form.now))) }
+    ensures { IfOk result (λ r. r ≡ told (stored known.entry.scope.now known.entry.locals.now value.entry.place object ty.now (written_of value.entry.form.now))) }
 {
-    let found = right_side(alloc, scope, locals, form);
-    stored_where(alloc, place, object, ty, found)
+    let found = right_side(alloc, known.scope, known.locals, value.form);
+    stored_where(alloc, value.place, object, ty, found)
 }
 
 // ---- given to the caller
@@ -86,16 +84,14 @@ fn returned_after(
 #[tactic(auto, unfolding(crate::specs::Profile::returned))]
 fn returned(
     alloc: Global,
-    scope: &Scope,
-    locals: &[LocalName],
-    place: Place,
+    known: Known,
     ty: &Ty,
-    form: &Form,
+    value: Placed,
 ) -> Result<Result<Step, Fault>, OutOfMemory>
-    ensures { IfOk result (λ r. r ≡ told (returned scope.now locals.now place ty.now (written_of form.now))) }
+    ensures { IfOk result (λ r. r ≡ told (returned known.entry.scope.now known.entry.locals.now value.entry.place ty.now (written_of value.entry.form.now))) }
 {
-    let found = right_side(alloc, scope, locals, form)?;
-    Ok(returned_after(alloc, place, ty, found)?)
+    let found = right_side(alloc, known.scope, known.locals, value.form)?;
+    Ok(returned_after(alloc, value.place, ty, found)?)
 }
 
 // ---- the rules
@@ -112,58 +108,48 @@ impl Typing for ProfileRules {
     fn typed(
         &self,
         alloc: Global,
-        scope: &Scope,
-        names: &[LocalName],
+        known: Known,
         form: &Form,
     ) -> Result<Result<Operand, Fault>, OutOfMemory> {
-        expression(alloc, scope, names, form)
+        expression(alloc, known.scope, known.locals, form)
     }
 
     fn assigned(
         &self,
         alloc: Global,
-        scope: &Scope,
-        names: &[LocalName],
-        at: Place,
-        operator: &[u8],
-        left: &Form,
-        right: &Form,
+        known: Known,
+        assignment: Assignment,
     ) -> Result<Result<Step, Fault>, OutOfMemory> {
-        assigned(alloc, scope, names, at, operator, left, right)
+        assigned(alloc, known, assignment)
     }
 
     fn called(
         &self,
         alloc: Global,
-        scope: &Scope,
-        names: &[LocalName],
+        known: Known,
         form: &Form,
     ) -> Result<Result<Step, Fault>, OutOfMemory> {
-        called(alloc, scope, names, form)
+        called(alloc, known.scope, known.locals, form)
     }
 
     fn stored(
         &self,
         alloc: Global,
-        scope: &Scope,
-        names: &[LocalName],
-        place: Place,
+        known: Known,
         object: Lval,
         ty: &Ty,
-        form: &Form,
+        value: Placed,
     ) -> Result<Result<Step, Fault>, OutOfMemory> {
-        stored(alloc, scope, names, place, object, ty, form)
+        stored(alloc, known, object, ty, value)
     }
 
     fn returned(
         &self,
         alloc: Global,
-        scope: &Scope,
-        names: &[LocalName],
-        place: Place,
+        known: Known,
         ty: &Ty,
-        form: &Form,
+        value: Placed,
     ) -> Result<Result<Step, Fault>, OutOfMemory> {
-        returned(alloc, scope, names, place, ty, form)
+        returned(alloc, known, ty, value)
     }
 }

@@ -64,15 +64,14 @@ fn called_source(place: Place, call: Result<TypedCall, Fault>) -> Result<Source,
     }
 }
 
-/// A call by itself. What it comes to as a part of an expression is let go.
-fn call_alone<A: Drop>(
+/// A call by itself.
+fn call_alone(
     alloc: Global,
     scope: &Scope,
     locals: &[LocalName],
     place: Place,
     f: &Form,
     args: &[Form],
-    _x: A,
 ) -> Result<Result<Source, Fault>, OutOfMemory>
     ensures { IfOk result (λ r. r ≡ told (source_of scope.now locals.now (Written.Call place (written_of f.now) (written_list (map written_of args.now))))) }
 {
@@ -203,7 +202,8 @@ fn source_at(
 {
     match what {
         FormWhat::Call(f, args) => {
-            call_alone(alloc, scope, locals, place, f.get(), args.as_slice(), x)
+            drop(x);
+            call_alone(alloc, scope, locals, place, f.get(), args.as_slice())
         }
         FormWhat::Name(_) => Ok(value_source(x)),
         FormWhat::Prefix(_, _) => Ok(value_source(x)),

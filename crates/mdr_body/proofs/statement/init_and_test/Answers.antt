@@ -9,4 +9,4 @@ use Rattle.mdr_body.proofs.statement.init_and_test.Goals as goal
 pub returns-clause-told : goal.returns-clause-told
 returns-clause-told g c =
     c.paired.ensures _ _ c.in_ok-first.ensures.told
-    (c.in_ok-second.ensures ∙ ap (λ (h : Here). told (perhaps_condition (g.R.Typing.rules c.args.rules.now) c.args.scope.now h c.args.place (option_map written_of c.args.test.now))) c.in_ok-first.ensures.grown)
+    (c.in_ok-second.ensures ∙ ap (λ (h : Here). told (perhaps_condition (g.R.Typing.rules c.args.setting.now.rules.now) c.args.setting.now.scope.now h c.args.place (option_map written_of c.args.parts.test.now))) c.in_ok-first.ensures.grown)

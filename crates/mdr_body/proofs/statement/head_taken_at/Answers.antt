@@ -1,0 +1,9 @@
+use Rattle.mdr_operand.specs.Written.{lines_of}
+use Rattle.mdr_body.specs.Pieces.{tail_in}
+use Rattle.mdr_body.specs.Addresses.{line_what}
+use Rattle.mdr_body.proofs.Apart.{apart}
+use Rattle.mdr_body.proofs.Undeclared.{head_none}
+use Rattle.mdr_body.proofs.statement.head_taken_at.Goals as goal
+
+pub returns-in_default : goal.returns-in_default
+returns-in_default c = head_none (lines_of c.args.rest.now) (tail_in c.args.parts c.args.body.now) (line_what c.args.what.now c.args.place) (apart c.args.what.now c.in_default.not-Local c.args.place)
