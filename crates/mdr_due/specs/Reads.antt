@@ -26,6 +26,10 @@ pub record IsRead (files : Files) (name : List ℕ) (limit : ℕ) (old new : Lis
   pub called : new ≡ and_then old (Read name limit answer)
   pub told : ReadsFrom files name limit answer
 
+-- the same with these bytes for an answer
+abbrev pub GaveBytes : Files → (name : List ℕ) → (limit : ℕ) → (old new : List ShelfCall) → (bytes : List ℕ) → Type 0
+GaveBytes files name limit old new bytes = IsRead files name limit old new (reads.Ok bytes)
+
 -- the same, whatever was answered
 pub record WasRead (files : Files) (name : List ℕ) (limit : ℕ) (old new : List ShelfCall) : Type 0 where
   pub answer : ReadAnswer

@@ -4,6 +4,7 @@ use Rattle.std.specs.Prelude.{◌≡◌, ℕ, List}
 use Rattle.mdr_due.specs.declared.due.Stage.{Stage}
 use Rattle.mdr_due.specs.declared.due.Stage.TheVariants as stage
 use Rattle.mdr_due.specs.declared.status.Status.{Status}
+use Rattle.mdr_outside.specs.Calls.{ShelfCall}
 use Rattle.mdr_outside.specs.Sides.{ShelfSide}
 use Rattle.mdr_due.specs.Statuses.{Counts, HasReadCause, counts_in}
 
@@ -11,6 +12,10 @@ use Rattle.mdr_due.specs.Statuses.{Counts, HasReadCause, counts_in}
 abbrev pub StageIs : {T : Type 0} → (T → Type 0) → (Status → List ℕ → Type 0) → Stage T → Type 0
 StageIs P Q (stage.Goes x) = P x
 StageIs P Q (stage.Ends due) = Q due.status due.text.items
+
+-- the same of what it did at a shelf, from the calls before it to those behind it
+abbrev pub StageFrom : {T : Type 0} → (List ShelfCall → List ShelfCall → T → Type 0) → (List ShelfCall → List ShelfCall → Status → List ℕ → Type 0) → (old new : List ShelfCall) → Stage T → Type 0
+StageFrom P Q old new s = StageIs (P old new) (Q old new) s
 
 abbrev pub HasStageCause : {T : Type 0} → (before after : Counts) → Stage T → Type 0
 HasStageCause before after (stage.Goes x) = Unit {0}

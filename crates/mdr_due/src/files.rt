@@ -1,9 +1,8 @@
 // Files that are read.
 
 ghost use Rattle.std.specs.Prelude.{◌≡◌, ◌≤◌, IfOk, OnErr};
-ghost use Rattle.mdr_outside.specs.declared.shelf.ReadAnswer.TheVariants as reads;
-ghost use Rattle.mdr_due.specs.Reads.{IsRead, WasRead, UnreadBy};
-ghost use Rattle.mdr_due.specs.Stages.{StageCause, StageIs};
+ghost use Rattle.mdr_due.specs.Reads.{GaveBytes, WasRead, UnreadBy};
+ghost use Rattle.mdr_due.specs.Stages.{StageCause, StageFrom};
 
 use crate::due::{Due, Stage};
 use crate::lines::file_line;
@@ -19,7 +18,7 @@ pub fn file<S: Shelf>(
     name: &str,
     limit: u64,
 ) -> Result<Stage<Items<u8>>, OutOfMemory>
-    ensures read { IfOk result (StageIs (λ bytes. IsRead (S.files shelf.old) name.now limit (S.calls shelf.old) (S.calls shelf.new) (reads.Ok bytes)) (UnreadBy (S.files shelf.old) name.now limit (S.calls shelf.old) (S.calls shelf.new))) }
+    ensures read { IfOk result (StageFrom (GaveBytes (S.files shelf.old) name.now limit) (UnreadBy (S.files shelf.old) name.now limit) (S.calls shelf.old) (S.calls shelf.new)) }
     ensures part { OnErr result (WasRead (S.files shelf.old) name.now limit (S.calls shelf.old) (S.calls shelf.new)) }
     ensures kept { S.files shelf.new ≡ S.files shelf.old }
     ensures cause { IfOk result (StageCause (⟦<S as ShelfSeen>⟧.side shelf.old) (⟦<S as ShelfSeen>⟧.side shelf.new)) }

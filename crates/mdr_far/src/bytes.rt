@@ -1,16 +1,13 @@
 // One message as bytes.
 
-ghost use Rattle.std.specs.Prelude.{◌≡◌, ℕ, [], ◌∷◌, ◌++◌, List, true, IfOk, OnOk};
+ghost use Rattle.std.specs.Prelude.{◌≡◌, ℕ, true, IfOk, OnOk};
 ghost use Rattle.mdr_core.specs.Sound.{IsSound};
-ghost use Rattle.mdr_model.specs.Bytes.{readings};
-ghost use Rattle.mdr_model.specs.KernelState.{Reading};
 ghost use Rattle.mdr_model.specs.declared.message.Message.TheVariants.{Refuse};
 ghost use Rattle.mdr_model.specs.Refusals.{is_refusal};
 ghost use Rattle.mdr_model.specs.Text.{text};
 ghost use Rattle.mdr_msg.specs.WellFormed.{IsMessage};
-ghost use Rattle.mdr_over_bytes.specs.OverBytes.{IsHonestReply};
-ghost use Rattle.mdr_split.specs.User.{user_reply};
-ghost use Rattle.mdr_user_code.specs.Standing.{Follows, IsFit, Opens};
+ghost use Rattle.mdr_far.specs.InBytes.{GoesOnBehind, IsRepliedTo};
+ghost use Rattle.mdr_user_code.specs.Standing.{GoesOnTo, IsFit, IsReplied, Opens};
 ghost use Rattle.mdr_watched.specs.Driver.{driver_of};
 
 use mdr_core::{OutOfMemory, Plan, Program};
@@ -37,8 +34,8 @@ fn told(
     requires sound { IsSound program.now }
     requires fit { IsFit plan.now program.now }
     requires opens { Opens (driver_of program.now plan.now) state.old }
-    ensures reply { IfOk result (λ r. (before : List Reading) → Follows (driver_of program.now plan.now) before state.old → r ≡ user_reply (driver_of program.now plan.now) before reading) }
-    ensures follows { OnOk result ((before : List Reading) → Follows (driver_of program.now plan.now) before state.old → Follows (driver_of program.now plan.now) (before ++ reading ∷ []) state.new) }
+    ensures reply { IfOk result (IsReplied (driver_of program.now plan.now) state.old reading) }
+    ensures follows { OnOk result (GoesOnTo (driver_of program.now plan.now) state.old reading state.new) }
     ensures refused { IfOk result (λ r. is_refusal r ≡ true → state.new ≡ state.old) }
 {
     let reply = delivered(alloc, program, plan, state, &reading);
@@ -65,8 +62,8 @@ pub(crate) fn reply_to(
     requires sound { IsSound program.now }
     requires fit { IsFit plan.now program.now }
     requires opens { Opens (driver_of program.now plan.now) state.old }
-    ensures reply { IfOk result (λ r. (before : List (List ℕ)) → Follows (driver_of program.now plan.now) (readings before) state.old → IsHonestReply (driver_of program.now plan.now) before bytes.now r.items) }
-    ensures follows { OnOk result ((before : List (List ℕ)) → Follows (driver_of program.now plan.now) (readings before) state.old → Follows (driver_of program.now plan.now) (readings (before ++ bytes.now ∷ [])) state.new) }
+    ensures reply { IfOk result (λ r. IsRepliedTo (driver_of program.now plan.now) state.old bytes.now r.items) }
+    ensures follows { OnOk result (GoesOnBehind (driver_of program.now plan.now) state.old bytes.now state.new) }
     ensures refused { IfOk result (λ r. (reason : ℕ) → r.items ≡ text (Refuse reason) → state.new ≡ state.old) }
 {
     let reading = reading_of(alloc, bytes)?;

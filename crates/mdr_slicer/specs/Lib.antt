@@ -1,3 +1,4 @@
 pub mod Outputs
 pub mod Writes
+pub mod Putting
 pub mod Slicing

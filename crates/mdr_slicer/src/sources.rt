@@ -2,7 +2,7 @@
 
 ghost use Rattle.std.specs.Prelude.{◌≡◌, ◌≤◌, IfOk, OnErr};
 ghost use Rattle.mdr_due.specs.Reads.{WasRead, longest_source};
-ghost use Rattle.mdr_due.specs.Stages.{StageCause, StageIs};
+ghost use Rattle.mdr_due.specs.Stages.{StageCause, StageFrom, StageIs};
 ghost use Rattle.mdr_slicer.specs.Slicing.{HasSource, NoSource, IsSourceOf, NoSourceOf};
 
 use mdr_core::OutOfMemory;
@@ -33,7 +33,7 @@ pub fn source_of<S: Shelf>(
     shelf: &mut S,
     name: &str,
 ) -> Result<Stage<Source>, OutOfMemory>
-    ensures read { IfOk result (StageIs (IsSourceOf (S.files shelf.old) name.now (S.calls shelf.old) (S.calls shelf.new)) (NoSourceOf (S.files shelf.old) name.now (S.calls shelf.old) (S.calls shelf.new))) }
+    ensures read { IfOk result (StageFrom (IsSourceOf (S.files shelf.old) name.now) (NoSourceOf (S.files shelf.old) name.now) (S.calls shelf.old) (S.calls shelf.new)) }
     ensures part { OnErr result (WasRead (S.files shelf.old) name.now longest_source (S.calls shelf.old) (S.calls shelf.new)) }
     ensures kept { S.files shelf.new ≡ S.files shelf.old }
     ensures cause { IfOk result (StageCause (⟦<S as ShelfSeen>⟧.side shelf.old) (⟦<S as ShelfSeen>⟧.side shelf.new)) }

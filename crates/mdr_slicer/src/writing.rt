@@ -2,12 +2,11 @@
 
 ghost use Rattle.std.specs.Prelude.{◌≡◌, ◌≤◌, IfOk, OnErr, map};
 ghost use Rattle.mdr_outside.specs.Count.{Rose};
-ghost use Rattle.mdr_outside.specs.declared.shelf.WriteAnswer.TheVariants as writes;
 ghost use Rattle.mdr_due.specs.Statuses.{Counts, HasReadCause};
-ghost use Rattle.mdr_due.specs.Stages.{StageIs};
 ghost use Rattle.mdr_due.specs.declared.status.Status.TheVariants as status;
 ghost use Rattle.mdr_slicer.specs.Outputs.{file_of};
-ghost use Rattle.mdr_slicer.specs.Writes.{IsPut, IsUnput, WasUnput, HasWriteCause, Writes, WritesPart};
+ghost use Rattle.mdr_slicer.specs.Putting.{StagePuts};
+ghost use Rattle.mdr_slicer.specs.Writes.{WasUnput, HasWriteCause, Writes, WritesPart};
 
 use crate::outputs::File;
 use mdr_core::OutOfMemory;
@@ -17,7 +16,7 @@ use std::alloc::Global;
 
 /// Writes a file, or says what is due where the shelf couldn't.
 fn put<S: Shelf>(alloc: Global, shelf: &mut S, file: &File) -> Result<Stage<()>, OutOfMemory>
-    ensures put { IfOk result (StageIs (λ _. IsPut (S.files shelf.old) (S.files shelf.new) (file_of file.now) (S.calls shelf.old) (S.calls shelf.new) writes.Ok) (IsUnput (S.files shelf.old) (S.files shelf.new) (file_of file.now) (S.calls shelf.old) (S.calls shelf.new))) }
+    ensures put { IfOk result (StagePuts (S.files shelf.old) (S.files shelf.new) (file_of file.now) (S.calls shelf.old) (S.calls shelf.new)) }
     ensures part { OnErr result (WasUnput (S.files shelf.old) (S.files shelf.new) (file_of file.now) (S.calls shelf.old) (S.calls shelf.new)) }
     ensures cause { IfOk result (HasWriteCause (S.unwritten shelf.old) (S.unwritten shelf.new)) }
     ensures later { S.unwritten shelf.old ≤ S.unwritten shelf.new }

@@ -5,7 +5,6 @@ use Rattle.mdr_due.specs.Statuses.{ReadCause}
 use Rattle.mdr_due.specs.declared.status.Status.{Status}
 use Rattle.mdr_due.specs.declared.status.Status.TheVariants as status
 use Rattle.mdr_due.specs.Reads.{Files, longest_source, longest_script}
-use Rattle.mdr_top.specs.declared.recipe.Recipe.{Recipe}
 use Rattle.mdr_outside.specs.Count.{Rose}
 use Rattle.mdr_top.specs.Scripts.{script_for}
 use Rattle.mdr_top.proofs.Stages.{outcome_own}

@@ -1,7 +1,7 @@
 // Three texts that are read.
 
 ghost use Rattle.std.specs.Prelude.{◌≡◌, ◌≤◌, IfOk, OnErr};
-ghost use Rattle.mdr_due.specs.Stages.{StageCause, StageIs};
+ghost use Rattle.mdr_due.specs.Stages.{StageCause, StageFrom};
 ghost use Rattle.mdr_top.specs.Names.{names_in};
 ghost use Rattle.mdr_top.specs.Reads.{AreRead, NoTexts, TextsPart};
 
@@ -21,7 +21,7 @@ pub(crate) fn texts_read<S: Shelf>(
     shelf: &mut S,
     files: TextFiles,
 ) -> Result<Stage<Texts>, OutOfMemory>
-    ensures read { IfOk result (StageIs (AreRead (S.files shelf.old) (names_in files.entry) (S.calls shelf.old) (S.calls shelf.new)) (NoTexts (S.files shelf.old) (names_in files.entry) (S.calls shelf.old) (S.calls shelf.new))) }
+    ensures read { IfOk result (StageFrom (AreRead (S.files shelf.old) (names_in files.entry)) (NoTexts (S.files shelf.old) (names_in files.entry)) (S.calls shelf.old) (S.calls shelf.new)) }
     ensures part { OnErr result (TextsPart (S.files shelf.old) (names_in files.entry) (S.calls shelf.old) (S.calls shelf.new)) }
     ensures kept { S.files shelf.new ≡ S.files shelf.old }
     ensures cause { IfOk result (StageCause (⟦<S as ShelfSeen>⟧.side shelf.old) (⟦<S as ShelfSeen>⟧.side shelf.new)) }

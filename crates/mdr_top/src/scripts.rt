@@ -4,7 +4,7 @@ ghost use Rattle.std.specs.Prelude.{◌≡◌, ◌≤◌, IfOk, OnErr};
 ghost use Rattle.mdr_core.specs.Sound.{HasFewNumbers};
 ghost use Rattle.mdr_due.specs.Reads.{WasRead, longest_script};
 ghost use Rattle.mdr_due.specs.Lines.{script_line};
-ghost use Rattle.mdr_due.specs.Stages.{StageCause, StageIs};
+ghost use Rattle.mdr_due.specs.Stages.{StageCause, StageFrom, StageIs};
 ghost use Rattle.mdr_due.specs.declared.status.Status.TheVariants as status;
 ghost use Rattle.mdr_script.specs.Scripts.{Told};
 ghost use Rattle.mdr_top.specs.Scripts.{script_for, kind_word, HasScript, NoScript, IsScriptOf, NoScriptOf};
@@ -64,7 +64,7 @@ pub fn script_of<S: Shelf>(
     name: &str,
 ) -> Result<Stage<Bound>, OutOfMemory>
     requires { HasFewNumbers program.now }
-    ensures read { IfOk result (StageIs (IsScriptOf (S.files shelf.old) program.now name.now (S.calls shelf.old) (S.calls shelf.new)) (NoScriptOf (S.files shelf.old) program.now name.now (S.calls shelf.old) (S.calls shelf.new))) }
+    ensures read { IfOk result (StageFrom (IsScriptOf (S.files shelf.old) program.now name.now) (NoScriptOf (S.files shelf.old) program.now name.now) (S.calls shelf.old) (S.calls shelf.new)) }
     ensures part { OnErr result (WasRead (S.files shelf.old) name.now longest_script (S.calls shelf.old) (S.calls shelf.new)) }
     ensures kept { S.files shelf.new ≡ S.files shelf.old }
     ensures cause { IfOk result (StageCause (⟦<S as ShelfSeen>⟧.side shelf.old) (⟦<S as ShelfSeen>⟧.side shelf.new)) }

@@ -1,7 +1,7 @@
 // The source whose halves and plan three texts are.
 
 ghost use Rattle.std.specs.Prelude.{◌≡◌, ◌≤◌, IfOk, OnErr};
-ghost use Rattle.mdr_due.specs.Stages.{StageCause, StageIs};
+ghost use Rattle.mdr_due.specs.Stages.{StageCause, StageFrom, StageIs};
 ghost use Rattle.mdr_top.specs.Names.{names_in};
 ghost use Rattle.mdr_top.specs.Reads.{TextsPart};
 ghost use Rattle.mdr_top.specs.Sources.{HasHalves, NoHalves, IsSourceIn, NoSourceIn};
@@ -35,7 +35,7 @@ pub(crate) fn source_in<S: Shelf>(
     shelf: &mut S,
     files: TextFiles,
 ) -> Result<Stage<Source>, OutOfMemory>
-    ensures read { IfOk result (StageIs (IsSourceIn (S.files shelf.old) (names_in files.entry) (S.calls shelf.old) (S.calls shelf.new)) (NoSourceIn (S.files shelf.old) (names_in files.entry) (S.calls shelf.old) (S.calls shelf.new))) }
+    ensures read { IfOk result (StageFrom (IsSourceIn (S.files shelf.old) (names_in files.entry)) (NoSourceIn (S.files shelf.old) (names_in files.entry)) (S.calls shelf.old) (S.calls shelf.new)) }
     ensures part { OnErr result (TextsPart (S.files shelf.old) (names_in files.entry) (S.calls shelf.old) (S.calls shelf.new)) }
     ensures kept { S.files shelf.new ≡ S.files shelf.old }
     ensures cause { IfOk result (StageCause (⟦<S as ShelfSeen>⟧.side shelf.old) (⟦<S as ShelfSeen>⟧.side shelf.new)) }

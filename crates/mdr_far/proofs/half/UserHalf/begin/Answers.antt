@@ -1,4 +1,4 @@
-use Rattle.std.proofs.Common.{[], Some, ap, refl, subst, sym, ◌∙◌}
+use Rattle.std.proofs.Common.{[], ap, refl, subst, sym, ◌∙◌}
 use Rattle.mdr_track.specs.Tracked.{pairs_of}
 use Rattle.mdr_user_memory.specs.Kept.{Kept}
 use Rattle.mdr_user_memory.specs.Paired.{Paired}
