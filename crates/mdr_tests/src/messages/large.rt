@@ -2,7 +2,7 @@
 
 use super::written;
 use mdr_core::{Items, Kind};
-use mdr_msg::{Message, Run, Wire, decode};
+use mdr_msg::{Message, Reply, Return, Run, Wire, decode};
 use std::alloc::Global;
 use std::process::Abort;
 use std::test::Fail;
@@ -24,11 +24,11 @@ fn many_runs(alloc: Global) -> Result<Message, Fail> {
     for serial in 0..RUNS {
         runs.push(run(alloc, serial)?)?;
     }
-    Ok(Message::Return {
+    Ok(Message::Reply(Reply::Return(Return {
         ticks: 1,
         result: Wire::NoValue,
         runs,
-    })
+    })))
 }
 
 fn is_message(alloc: Global, bytes: &[u8]) -> bool {

@@ -3,7 +3,7 @@
 use super::written;
 use crate::hex::bytes_of;
 use mdr_core::Items;
-use mdr_msg::{Message, Wire, decode};
+use mdr_msg::{Message, Reply, Return, Wire, decode};
 use std::alloc::Global;
 use std::process::Abort;
 use std::test::Fail;
@@ -13,35 +13,35 @@ use std::test::Fail;
 const RUN: &[(&str, &str)] = &[
     (
         "00000001000000010000000000000000000f4240000000000000000000000000000000010000000000000000000000000000000100000000",
-        "Call { func: 1, depth: 0, rest: 1000000, args: Items { items: [] }, told: Told { deaths: Items { items: [] }, news: Items { items: [] }, view: Items { items: [SetRun { serial: 0, first: 0, len: 1 }] }, runs: Items { items: [] } } }",
+        "Call(Call { func: 1, depth: 0, rest: 1000000, args: Items { items: [] }, told: Told { deaths: Items { items: [] }, news: Items { items: [] }, view: Items { items: [SetRun { serial: 0, first: 0, len: 1 }] }, runs: Items { items: [] } } })",
     ),
     (
         "000000030000000000000001000000010000000100000001000000000000000000000000",
-        "Down { ticks: 1, at: At { func: 1, stmt: 1 }, depth: 1, func: 0, args: Items { items: [] }, runs: Items { items: [] } }",
+        "Reply(Down(Down { ticks: 1, at: At { func: 1, stmt: 1 }, depth: 1, func: 0, args: Items { items: [] }, runs: Items { items: [] } }))",
     ),
     (
         "0000000400000000000f423e0000000c0000000000000000000000010000000000000000000000000000000100000001000000000000000000000000000000010000000200000001",
-        "Back { rest: 999998, result: NoValue, told: Told { deaths: Items { items: [] }, news: Items { items: [] }, view: Items { items: [SetRun { serial: 0, first: 0, len: 1 }] }, runs: Items { items: [Run { serial: 0, first: 0, values: Items { items: [Int(U32, 1)] } }] } } }",
+        "Back(Back { rest: 999998, result: NoValue, told: Told { deaths: Items { items: [] }, news: Items { items: [] }, view: Items { items: [SetRun { serial: 0, first: 0, len: 1 }] }, runs: Items { items: [Run { serial: 0, first: 0, values: Items { items: [Int(U32, 1)] } }] } } })",
     ),
     (
         "0000000500000000000000010000000100000002000000050000000200000002000000010000000200000004000000000000000000000000",
-        "Ask { ticks: 1, at: At { func: 1, stmt: 2 }, service: 5, args: Items { items: [Int(U32, 1), Int(U32, 4)] }, shapes: Items { items: [] }, bytes: Items { items: [] }, runs: Items { items: [] } }",
+        "Reply(Ask(Ask { ticks: 1, at: At { func: 1, stmt: 2 }, service: 5, args: Items { items: [Int(U32, 1), Int(U32, 4)] }, shapes: Items { items: [] }, bytes: Items { items: [] }, runs: Items { items: [] } }))",
     ),
     (
         "00000006000000000000000000000000",
-        "Answer { results: Items { items: [] }, deaths: Items { items: [] }, news: Items { items: [] } }",
+        "Answer(Answer { results: Items { items: [] }, deaths: Items { items: [] }, news: Items { items: [] } })",
     ),
     (
         "000000030000000000000001000000010000000300000001000000000000000000000000",
-        "Down { ticks: 1, at: At { func: 1, stmt: 3 }, depth: 1, func: 0, args: Items { items: [] }, runs: Items { items: [] } }",
+        "Reply(Down(Down { ticks: 1, at: At { func: 1, stmt: 3 }, depth: 1, func: 0, args: Items { items: [] }, runs: Items { items: [] } }))",
     ),
     (
         "0000000400000000000f423b0000000c0000000000000000000000010000000000000000000000000000000100000001000000000000000000000000000000010000000200000002",
-        "Back { rest: 999995, result: NoValue, told: Told { deaths: Items { items: [] }, news: Items { items: [] }, view: Items { items: [SetRun { serial: 0, first: 0, len: 1 }] }, runs: Items { items: [Run { serial: 0, first: 0, values: Items { items: [Int(U32, 2)] } }] } } }",
+        "Back(Back { rest: 999995, result: NoValue, told: Told { deaths: Items { items: [] }, news: Items { items: [] }, view: Items { items: [SetRun { serial: 0, first: 0, len: 1 }] }, runs: Items { items: [Run { serial: 0, first: 0, values: Items { items: [Int(U32, 2)] } }] } } })",
     ),
     (
         "0000000200000000000000000000000c00000000",
-        "Return { ticks: 0, result: NoValue, runs: Items { items: [] } }",
+        "Reply(Return(Return { ticks: 0, result: NoValue, runs: Items { items: [] } }))",
     ),
 ];
 
@@ -49,17 +49,17 @@ const RUN: &[(&str, &str)] = &[
 const OTHERS: &[(&str, &str)] = &[
     (
         "000000060000000d00000000000000ff000000010000010200000002ffffffff00000003000000000000000100000004ffffffff00000005ffff800000000006fffffffe00000007fffffffffffffffe00000008000000090000000000000005000000010000000200000003000000040000000a0000000b000000070000000c000000020000000000000004000000000000000600000001000000000000000700000001000000030000000a",
-        "Answer { results: Items { items: [Int(U8, 255), Int(U16, 258), Int(U32, 4294967295), Int(U64, 1), Int(S8, -1), Int(S16, -32768), Int(S32, -2), Int(S64, -2), Null, Ptr(WireView { serial: 5, first: 1, ty: 2, count: 3, index: 4 }), Dead, Fn(7), NoValue] }, deaths: Items { items: [4, 6] }, news: Items { items: [New { serial: 7, kind: Heap, ty: 3, count: 10 }] } }",
+        "Answer(Answer { results: Items { items: [Int(U8, 255), Int(U16, 258), Int(U32, 4294967295), Int(U64, 1), Int(S8, -1), Int(S16, -32768), Int(S32, -2), Int(S64, -2), Null, Ptr(WireView { serial: 5, first: 1, ty: 2, count: 3, index: 4 }), Dead, Fn(7), NoValue] }, deaths: Items { items: [4, 6] }, news: Items { items: [New { serial: 7, kind: Heap, ty: 3, count: 10 }] } })",
     ),
     (
         "0000000500000000000000000000000100000002000000010000000000000001000000030000000000000001000000036162630000000000",
-        "Ask { ticks: 0, at: At { func: 1, stmt: 2 }, service: 1, args: Items { items: [] }, shapes: Items { items: [Shape64 { ty: 3, count: 1 }] }, bytes: Items { items: [97, 98, 99] }, runs: Items { items: [] } }",
+        "Reply(Ask(Ask { ticks: 0, at: At { func: 1, stmt: 2 }, service: 1, args: Items { items: [] }, shapes: Items { items: [Shape64 { ty: 3, count: 1 }] }, bytes: Items { items: [97, 98, 99] }, runs: Items { items: [] } }))",
     ),
     (
         "00000007000000000000000200000004000000010000000200000000",
-        "Stop { ticks: 2, stop: 4, at: At { func: 1, stmt: 2 }, runs: Items { items: [] } }",
+        "Reply(Stop(Stop { ticks: 2, stop: 4, at: At { func: 1, stmt: 2 }, runs: Items { items: [] } }))",
     ),
-    ("0000000800000002", "Refuse { reason: 2 }"),
+    ("0000000800000002", "Refuse(2)"),
 ];
 
 fn is_shown(alloc: Global, m: &Message, text: &str) -> Result<bool, Fail> {
@@ -114,11 +114,11 @@ fn other_messages(rt: HostRuntime) -> Result<(), Fail> {
 }
 
 fn returned(alloc: Global) -> Result<Vec<u8>, Fail> {
-    let m = Message::Return {
+    let m = Message::Reply(Reply::Return(Return {
         ticks: 0,
         result: Wire::NoValue,
         runs: Items::new(alloc),
-    };
+    }));
     let bytes = written(alloc, &m);
     drop(m);
     bytes

@@ -1,16 +1,15 @@
 // Runs in which code of the kernel half calls back into the user half.
 
-use super::answers::answers_of;
-use super::{expect_run, expect_run_here};
+use super::expect_run_here;
 use crate::outside::shelf;
-use mdr_outside::{LoadAnswer, LyingFar, MapShelf};
+use mdr_outside::MapShelf;
 use mdr_top::Status;
 use std::alloc::{AllocError, Global};
 use std::process::Abort;
 use std::test::Fail;
 
 /// User code calls a function of the kernel half twice, which calls it back each time.
-const FIRE: &str =
+pub(super) const FIRE: &str =
     "struct job {u32 n;}; struct job j; u32 log; void (*cb)(u32); void done(u32 x){log=log*10+x; writel(x,3);} __critical void fire(u32 x){kcall(cb,x); j.n+=1;} void go(void){cb=done; fire(1); fire(2); log+=j.n;}";
 
 /// The lines of its messages: in each call of the kernel half the user half is called, and asks for a write.
@@ -81,7 +80,7 @@ const SPLIT: &[&str] = &["run", "split", "driver.c", "driver.script", "--wire"];
 const WATCHED: &[&str] = &["run", "whole", "driver.c", "driver.script", "--watch"];
 
 /// A shelf with a driver and a script.
-fn shelf_of(
+pub(super) fn shelf_of(
     rt: &impl Abort,
     alloc: Global,
     driver: &str,
@@ -120,99 +119,6 @@ fn expect_both(rt: &impl Abort, alloc: Global, row: &Row) -> Result<(), Fail> {
 fn code_of_the_kernel_half_calls_back(rt: HostRuntime) -> Result<(), Fail> {
     for row in RUNS {
         expect_both(&rt, rt.alloc(), row)?;
-    }
-    Ok(())
-}
-
-/// In the first driver's run the user half first calls the function that calls back. Numbers are words of four bytes.
-const FIRST: &[u32] = &[3, 0, 2, 2, 2, 1, 1, 1, 2, 1, 1, 0, 2, 0, 1, 11, 0];
-
-/// What is called back calls that function too, with as many functions active as when it was called.
-const AS_DEEP: &[u32] = &[3, 0, 1, 0, 2, 2, 1, 1, 2, 5, 0];
-
-/// The same with one more.
-const DEEPER: &[u32] = &[3, 0, 1, 0, 2, 3, 1, 1, 2, 5, 0];
-
-/// With no tick spent it asks for an object of a local.
-const ENTER: &[u32] = &[5, 0, 0, 0, 1, 13, 0, 1, 2, 0, 1, 0, 0];
-
-/// It asks for a register to be read.
-const READ: &[u32] = &[5, 0, 0, 0, 2, 4, 1, 2, 7, 0, 0, 0];
-
-/// It returns.
-const RETURN: &[u32] = &[2, 0, 0, 12, 0];
-
-/// Replies, and the status and the report of the run. Where they are used up the far side fails. With three ticks and a
-/// command, 26 messages may go before those that end the two open calls.
-const ENDS: &[(&[&[u32]], Status, &str)] = &[
-    (
-        &[FIRST, AS_DEEP],
-        Status::Marshal,
-        "call go\nrefused 2 BadDepth 0\nticks 3\nlive 3\nobj 1 struct job x1: 0\nobj 2 u32 x1: 0\nobj 3 fn(void;u32) x1: &done\n",
-    ),
-    (
-        &[FIRST, DEEPER],
-        Status::FarFault,
-        "call go\nfar fault 3\nticks 5\nlive 3\nobj 1 struct job x1: 0\nobj 2 u32 x1: 0\nobj 3 fn(void;u32) x1: &done\n",
-    ),
-    (
-        &[FIRST, DEEPER, RETURN, RETURN],
-        Status::FarFault,
-        "call go\nfar fault 5\nticks 7\nlive 3\nobj 1 struct job x1: 2\nobj 2 u32 x1: 0\nobj 3 fn(void;u32) x1: &done\n",
-    ),
-    (
-        &[FIRST, RETURN, RETURN],
-        Status::Done,
-        "call go\nret none\nend ok\nticks 4\nlive 3\nobj 1 struct job x1: 1\nobj 2 u32 x1: 0\nobj 3 fn(void;u32) x1: &done\n",
-    ),
-    (
-        &[FIRST, ENTER, RETURN],
-        Status::Marshal,
-        "call go\nrefused 3 StillEntered 0\nticks 3\nlive 4\nobj 1 struct job x1: 0\nobj 2 u32 x1: 0\nobj 3 fn(void;u32) x1: &done\n",
-    ),
-    (
-        &[
-            FIRST, READ, READ, READ, READ, READ, READ, READ, READ, READ, READ, READ, READ, READ,
-        ],
-        Status::Marshal,
-        "call go\nR 7 0\nR 7 0\nR 7 0\nR 7 0\nR 7 0\nR 7 0\nR 7 0\nR 7 0\nR 7 0\nR 7 0\nR 7 0\nR 7 0\nrefused 14 NotAwaited 0\nticks 3\nlive 3\nobj 1 struct job x1: 0\nobj 2 u32 x1: 0\nobj 3 fn(void;u32) x1: &done\n",
-    ),
-];
-
-/// The words of a run in two halves.
-const RUN: &[&str] = &["run", "split", "driver.c", "driver.script"];
-
-/// Runs the first driver over a far side.
-fn expect_over(
-    rt: &impl Abort,
-    alloc: Global,
-    far: &mut LyingFar,
-    status: Status,
-    text: &str,
-) -> Result<(), Fail> {
-    let mut shelf = shelf_of(rt, alloc, FIRE, "call go\n")?;
-    let told = expect_run(rt, alloc, RUN, &mut shelf, far, status, text);
-    drop(shelf);
-    told
-}
-
-fn expect_end(
-    rt: &impl Abort,
-    alloc: Global,
-    replies: &[&[u32]],
-    status: Status,
-    text: &str,
-) -> Result<(), Fail> {
-    let mut far = LyingFar::new(alloc, LoadAnswer::Ok, answers_of(alloc, replies)?);
-    let told = expect_over(rt, alloc, &mut far, status, text);
-    drop(far);
-    told
-}
-
-#[test]
-fn replies_to_calls_of_the_kernel_half_are_judged(rt: HostRuntime) -> Result<(), Fail> {
-    for (replies, status, text) in ENDS {
-        expect_end(&rt, rt.alloc(), replies, *status, text)?;
     }
     Ok(())
 }

@@ -2,18 +2,14 @@
 // Numbers are words of four bytes.
 
 use super::answers::answers_of;
+use super::callbacks::{FIRE as DRIVER, shelf_of};
 use super::expect_run;
-use crate::outside::shelf;
 use mdr_core::Items;
-use mdr_outside::{DeliverAnswer, LoadAnswer, LyingFar, MapShelf};
+use mdr_outside::{DeliverAnswer, LoadAnswer, LyingFar};
 use mdr_top::Status;
 use std::alloc::{AllocError, Global};
 use std::process::Abort;
 use std::test::Fail;
-
-/// `done` is called back in the middle of `fire`.
-const DRIVER: &str =
-    "struct job {u32 n;}; struct job j; u32 log; void (*cb)(u32); void done(u32 x){log=log*10+x; writel(x,3);} __critical void fire(u32 x){kcall(cb,x); j.n+=1;} void go(void){cb=done; fire(1); fire(2); log+=j.n;}";
 
 /// Honestly `go` sets the pointer and calls `fire`.
 const FIRE: &[u32] = &[3, 0, 2, 2, 2, 1, 1, 1, 2, 1, 1, 0, 2, 0, 1, 11, 0];
@@ -25,6 +21,14 @@ const FIRE_DEEPEST: &[u32] = &[3, 0, 2, 2, 2, 255, 1, 1, 2, 1, 1, 0, 2, 0, 1, 11
 
 /// What was called back calls `fire` in its turn, with 255 functions active.
 const FIRE_AGAIN: &[u32] = &[3, 0, 0, 0, 1, 255, 1, 1, 2, 9, 0];
+
+/// It calls `fire` with as many functions active as when it was called itself, and with one more, after a tick.
+const FIRE_AS_DEEP: &[u32] = &[3, 0, 1, 0, 2, 2, 1, 1, 2, 5, 0];
+
+const FIRE_DEEPER: &[u32] = &[3, 0, 1, 0, 2, 3, 1, 1, 2, 5, 0];
+
+/// It asks for a register to be read.
+const READ: &[u32] = &[5, 0, 0, 0, 2, 4, 1, 2, 7, 0, 0, 0];
 
 /// A function returns.
 const RETURN: &[u32] = &[2, 0, 0, 12, 0];
@@ -50,6 +54,9 @@ const ENTER: &[u32] = &[5, 0, 0, 2, 0, 13, 0, 1, 2, 0, 1, 0, 0];
 const LEAVE: &[u32] = &[5, 0, 0, 2, 0, 14, 1, 9, 0, 3, 0, 2, 1, 0, 0, 0, 0];
 
 const LEAVE_WITHIN: &[u32] = &[5, 0, 0, 0, 0, 14, 1, 9, 0, 3, 0, 2, 1, 0, 0, 0, 0];
+
+/// An object of a local of what was called back.
+const ENTER_WITHIN: &[u32] = &[5, 0, 0, 0, 1, 13, 0, 1, 2, 0, 1, 0, 0];
 
 /// What is left where `fire` was called once, called back and didn't go on.
 const CALLED: &str =
@@ -134,6 +141,52 @@ const ROWS: &[Row] = &[
         4,
         FIRED,
     ),
+    (
+        &[FIRE, ENTER_WITHIN, RETURN],
+        Status::Marshal,
+        "refused 3 StillEntered 0",
+        3,
+        "live 4\nobj 1 struct job x1: 0\nobj 2 u32 x1: 0\nobj 3 fn(void;u32) x1: &done\n",
+    ),
+    // with three ticks and a command 26 messages may go before those that end the two open calls
+    (
+        &[
+            FIRE, READ, READ, READ, READ, READ, READ, READ, READ, READ, READ, READ, READ, READ,
+        ],
+        Status::Marshal,
+        "R 7 0\nR 7 0\nR 7 0\nR 7 0\nR 7 0\nR 7 0\nR 7 0\nR 7 0\nR 7 0\nR 7 0\nR 7 0\nR 7 0\nrefused 14 NotAwaited 0",
+        3,
+        CALLED,
+    ),
+    // calls within calls
+    (
+        &[FIRE, RETURN, RETURN],
+        Status::Done,
+        "ret none\nend ok",
+        4,
+        FIRED,
+    ),
+    (
+        &[FIRE, FIRE_AS_DEEP],
+        Status::Marshal,
+        "refused 2 BadDepth 0",
+        3,
+        CALLED,
+    ),
+    (
+        &[FIRE, FIRE_DEEPER],
+        Status::FarFault,
+        "far fault 3",
+        5,
+        CALLED,
+    ),
+    (
+        &[FIRE, FIRE_DEEPER, RETURN, RETURN],
+        Status::FarFault,
+        "far fault 5",
+        7,
+        "live 3\nobj 1 struct job x1: 2\nobj 2 u32 x1: 0\nobj 3 fn(void;u32) x1: &done\n",
+    ),
     // the last depths
     (
         &[FIRE_DEEPEST],
@@ -163,16 +216,6 @@ fn report_of(alloc: Global, end: &str, ticks: u32, left: &str) -> Result<String,
     format!(in alloc; "call go\n{end}\nticks {ticks}\n{left}")
 }
 
-/// A shelf with the driver and its script.
-fn shelf_of_driver(rt: &impl Abort, alloc: Global) -> Result<MapShelf, AllocError> {
-    let rows = [
-        ("driver.c", DRIVER.as_bytes()),
-        ("driver.script", b"call go\n".as_slice()),
-    ];
-    let files = shelf::files_of(alloc, &rows)?;
-    Ok(shelf::shelf_of(rt, files, Vec::new(alloc)))
-}
-
 /// Runs the driver over a far side.
 fn expect_over(
     rt: &impl Abort,
@@ -181,7 +224,7 @@ fn expect_over(
     status: Status,
     text: &str,
 ) -> Result<(), Fail> {
-    let mut shelf = shelf_of_driver(rt, alloc)?;
+    let mut shelf = shelf_of(rt, alloc, DRIVER, "call go\n")?;
     let words = &["run", "split", "driver.c", "driver.script"];
     let told = expect_run(rt, alloc, words, &mut shelf, far, status, text);
     drop(shelf);
